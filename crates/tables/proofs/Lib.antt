@@ -1,0 +1,10 @@
+-- The laws of the tables: choices, lists, header, numbers and words, nodes, keys, the fresh block, places, examples. Callers' proofs cite them.
+pub mod Picks
+pub mod Lists
+pub mod Limits
+pub mod OneToOne
+pub mod Written
+pub mod Keyed
+pub mod Making
+pub mod Places
+pub mod Examples

@@ -1,0 +1,171 @@
+-- Numbers and words say what they stand for: refusals, pending words, and the order of refusals.
+use Prim.Native.Nat.{ℕ, zero, suc, _+_, _*_, _-_, _/_, _%_, _≤_, _<_}
+use mathlib.Core.Path.{_≡_, refl, sym, ap, _∙_}
+use mathlib.Core.Bool.{Bool, true, false}
+use mathlib.Core.List.{List, [], _∷_, _++_, map}
+use native.Mathlib.Omega.{arith}
+use native.Mathlib.Nat.{mod-lt, div-add-mod, mul-add-div, mul-add-mod-self-left, div-eq-of-lt, mod-eq-of-lt}
+use lib.ListN.{List·getD-map}
+use Rattle.tables.specs.Choice.{pick, both, within, listed, Reason, decide, Verdict, refused, accepted, verdict, told, NoneHolds, none, nor, First}
+use Rattle.tables.specs.Refusal.{numberOf, refusals, refusal}
+use Rattle.tables.specs.Pending.{wordOf, pendingOfKind, pendingOf}
+use Rattle.tables.specs.declared.numbers.Refusal.{Refusal}
+use Rattle.tables.specs.declared.numbers.Refusal.the-variants.{
+  MakingNumber,
+  TooShort,
+  Damaged,
+  NoSuchProcess,
+  UnknownOperation,
+  InfinityGiven,
+  Busy,
+  Idle,
+  ListTooShort,
+  LowAboveHigh,
+  NotInForm,
+}
+use Rattle.tables.specs.declared.pending.Pending.{Pending}
+use Rattle.tables.specs.declared.pending.Pending.the-variants.{Clean, Replace, Prune, Mark}
+use Rattle.tables.specs.Header.{headerOf, blockReasons, headerRead}
+use Rattle.tables.specs.Fresh.{freshHeader, freshBlock, overFront, makingReasons, MakeOut, makeOut, makeOf}
+use Rattle.tables.specs.declared.header.HeaderRead.the-variants.{Good, Refused}
+use Rattle.tables.specs.declared.fresh.Made.the-variants.{Done, Refused as MadeRefused}
+use Rattle.tables.proofs.Picks.{both-1, both-2, within-low, within-high}
+use Rattle.tables.proofs.Lists.{getD-listed}
+
+pub refusal-number : (e : Refusal) → refusal (numberOf e) ≡ e
+refusal-number MakingNumber = refl
+refusal-number TooShort = refl
+refusal-number Damaged = refl
+refusal-number NoSuchProcess = refl
+refusal-number UnknownOperation = refl
+refusal-number InfinityGiven = refl
+refusal-number Busy = refl
+refusal-number Idle = refl
+refusal-number ListTooShort = refl
+refusal-number LowAboveHigh = refl
+refusal-number NotInForm = refl
+
+in-order : map numberOf refusals ≡ listed (λ n. n) 1 11
+unfolding listed
+in-order = refl
+
+pub number-refusal : (n : ℕ) → 1 ≤ n → n ≤ 11 → numberOf (refusal n) ≡ n
+number-refusal n p q =
+    let e : 1 + (n - 1) ≡ n = omega arith in
+    sym (List·getD-map numberOf refusals (n - 1) Damaged) ∙ rw in-order (getD-listed (λ i. i) 1 11 (n - 1) 3 (omega arith) ∙ e)
+
+-- the two parts of a pending word
+kind-part : (r n : ℕ) → n < 4 → (4 * r + n) % 4 ≡ n
+kind-part r n p = mul-add-mod-self-left 4 r n ∙ mod-eq-of-lt p
+
+record-part : (r n : ℕ) → n < 4 → (4 * r + n) / 4 ≡ r
+record-part r n p = mul-add-div (omega arith) r n ∙ rw (div-eq-of-lt p) (omega arith)
+
+pub pending-word : (v : Pending) → pendingOf (wordOf v) ≡ v
+pending-word (Clean r) = rw (kind-part r 0 (omega arith), record-part r 0 (omega arith)) refl
+pending-word (Replace r) = rw (kind-part r 1 (omega arith), record-part r 1 (omega arith)) refl
+pending-word (Prune r) = rw (kind-part r 2 (omega arith), record-part r 2 (omega arith)) refl
+pending-word (Mark r) = rw (kind-part r 3 (omega arith), record-part r 3 (omega arith)) refl
+
+of-kind : (n r : ℕ) → n < 4 → wordOf (pendingOfKind n r) ≡ 4 * r + n
+of-kind zero r p = refl
+of-kind (suc zero) r p = refl
+of-kind (suc (suc zero)) r p = refl
+of-kind (suc (suc (suc zero))) r p = refl
+of-kind (suc (suc (suc (suc n)))) r p = absurd (omega arith)
+
+pub word-pending : (w : ℕ) → wordOf (pendingOf w) ≡ w
+word-pending w = of-kind (w % 4) (w / 4) (mod-lt w (omega arith)) ∙ div-add-mod w 4
+
+-- reasons that do not hold decide nothing
+module _ {A : Type 0} (refusing : ℕ → A) (accepting : A) where
+  passed : (bs rs : List Reason) → NoneHolds bs → decide (bs ++ rs) refusing accepting ≡ decide rs refusing accepting
+  unfolding pick
+  passed [] rs none = refl
+  passed (b ∷ bs) rs (nor e n) = rw e (passed bs rs n)
+
+  pub none-accepts : (rs : List Reason) → NoneHolds rs → decide rs refusing accepting ≡ accepting
+  unfolding pick
+  none-accepts [] none = refl
+  none-accepts (r ∷ rs) (nor e n) = rw e (none-accepts rs n)
+
+  pub first-refuses : (n : ℕ) (rs : List Reason) → First n rs → decide rs refusing accepting ≡ refusing n
+  unfolding pick
+  first-refuses n rs f =
+      rw (f .split) (passed (f .before) (f .this ∷ f .after) (f .not-before) ∙ rw (f .holds, f .number) refl)
+
+  -- an answer says the verdict
+  pub tells : (rs : List Reason) → decide rs refusing accepting ≡ told refusing accepting (verdict rs)
+  unfolding pick
+  tells [] = refl
+  tells (r ∷ rs) = go (r .holds) (tells rs)
+    where
+      go : (t : Bool) → decide rs refusing accepting ≡ told refusing accepting (verdict rs) →
+          pick t (refusing (r .number)) (decide rs refusing accepting) ≡ told refusing accepting (pick t (refused (r .number)) (verdict rs))
+      go true e = refl
+      go false e = e
+
+pub refused-first : (n : ℕ) (rs : List Reason) → verdict rs ≡ refused n → First n rs
+unfolding pick
+refused-first n [] e = let z : _≡_ {A = ℕ} 0 1 = cc in absurd (omega arith)
+refused-first n (r ∷ rs) e = go (r .holds) refl e (refused-first n rs)
+  where
+    go : (t : Bool) → r .holds ≡ t → pick t (refused (r .number)) (verdict rs) ≡ refused n → (verdict rs ≡ refused n → First n rs) → First n (r ∷ rs)
+    go true h e up = record { before = []; this = r; after = rs; split = refl; not-before = none; holds = h; number = cc }
+    go false h e up =
+        let f = up e in
+        record { before = r ∷ f .before; this = f .this; after = f .after; split = ap (λ (l : List Reason). r ∷ l) (f .split); not-before = nor h (f .not-before); holds = f .holds; number = f .number }
+
+pub accepted-none : (rs : List Reason) → verdict rs ≡ accepted → NoneHolds rs
+unfolding pick
+accepted-none [] e = none
+accepted-none (r ∷ rs) e = go (r .holds) refl e (accepted-none rs)
+  where
+    go : (t : Bool) → r .holds ≡ t → pick t (refused (r .number)) (verdict rs) ≡ accepted → (verdict rs ≡ accepted → NoneHolds rs) → NoneHolds (r ∷ rs)
+    go true h e up = let z : _≡_ {A = ℕ} 0 1 = cc in absurd (omega arith)
+    go false h e up = nor h (up e)
+
+-- every number of a list of reasons is in document 01's table
+abbrev pub numbered : List Reason → Bool
+numbered [] = true
+numbered (r ∷ rs) = both (within 1 (r .number) 11) (numbered rs)
+
+numbered-at : (bs : List Reason) (r : Reason) (rs : List Reason) → numbered (bs ++ r ∷ rs) ≡ true → within 1 (r .number) 11 ≡ true
+numbered-at [] r rs e = both-1 _ _ e
+numbered-at (b ∷ bs) r rs e = numbered-at bs r rs (both-2 _ _ e)
+
+-- A call answers a refusal exactly when its number is that of the first reason that holds. `say` is how the call says it.
+module _ {A : Type 0} (say : Refusal → A) (accepting : A) (rs : List Reason) (e : Refusal) where
+  pub first-answers : First (numberOf e) rs → decide rs (λ n. say (refusal n)) accepting ≡ say e
+  first-answers f = first-refuses (λ n. say (refusal n)) accepting (numberOf e) rs f ∙ ap say (refusal-number e)
+
+  pub answers-first : ((d : Refusal) → say d ≡ say e → d ≡ e) → (accepting ≡ say e → ⊥) → numbered rs ≡ true → decide rs (λ n. say (refusal n)) accepting ≡ say e → First (numberOf e) rs
+  answers-first one never t a = go (verdict rs) refl (sym (tells (λ n. say (refusal n)) accepting rs) ∙ a)
+    where
+      of-number : (n : ℕ) → First n rs → within 1 n 11 ≡ true
+      of-number n f = rw (f .number) at (numbered-at (f .before) (f .this) (f .after) (rw (f .split) at t))
+
+      go : (v : Verdict) → verdict rs ≡ v → told (λ n. say (refusal n)) accepting v ≡ say e → First (numberOf e) rs
+      go accepted q b = absurd (never b)
+      go (refused n) q b =
+          let f : First n rs = refused-first n rs q in
+          let w : within 1 n 11 ≡ true = of-number n f in
+          let m : n ≡ numberOf e = sym (number-refusal n (within-low 1 n 11 w) (within-high 1 n 11 w)) ∙ ap numberOf (one (refusal n) b) in
+          rw m at f
+
+-- this crate's calls that refuse
+pub read-refused : (b : List ℕ) (e : Refusal) → headerRead b ≡ Refused e → First (numberOf e) (blockReasons b)
+unfolding both
+read-refused b e = answers-first Refused (Good (headerOf b)) (blockReasons b) e (λ d p. cc) (λ p. let z : _≡_ {A = ℕ} 0 1 = cc in omega arith) refl
+
+pub make-refused : (b : List ℕ) (k p n r : ℕ) (e : Refusal) → makeOf b k p n r ≡ makeOut (MadeRefused e) b → First (numberOf e) (makingReasons b k p n r)
+unfolding both
+make-refused b k p n r e =
+    answers-first (λ d. makeOut (MadeRefused d) b) (makeOut Done (overFront (freshBlock (freshHeader k p n r)) b)) (makingReasons b k p n r) e
+    (λ d q. one d (ap (λ (o : MakeOut). o .made) q)) (λ q. never (ap (λ (o : MakeOut). o .made) q)) refl
+  where
+    one : (d : Refusal) → MadeRefused d ≡ MadeRefused e → d ≡ e
+    one d q = cc
+
+    never : Done ≡ MadeRefused e → ⊥
+    never q = let z : _≡_ {A = ℕ} 0 1 = cc in omega arith

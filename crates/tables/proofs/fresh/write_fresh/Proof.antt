@@ -1,0 +1,18 @@
+-- The proof that `fresh::write_fresh` keeps its contract.
+use borrow.Author.Needs.{needs}
+use Rattle.tables.proofs.Making.{fresh-by}
+use Rattle.tables.proofs.fresh.write_fresh.Statement.{statement}
+use Rattle.tables.proofs.fresh.write_fresh.Tie as tie
+
+pub write-fresh-spec : {M : Type 1} → statement M
+write-fresh-spec =
+    tie.close
+    (tie.spec
+    (λ c κs. search needs)  -- write-header-requires
+    (λ c κs. search needs)  -- write-internal-requires
+    (λ c. search needs)  -- cast-write-internal
+    (λ c. search needs)  -- add-write-internal
+    (λ c κs. search needs)  -- write-internal-requires-2
+    (λ c. search needs)  -- same-length
+    (λ c. search fresh-by)  -- returns
+    )

@@ -1,0 +1,14 @@
+-- The proof that `fresh::write_header` keeps its contract.
+use borrow.Author.Needs.{needs}
+use Rattle.tables.proofs.fresh.write_header.Statement.{statement}
+use Rattle.tables.proofs.fresh.write_header.Tie as tie
+
+pub write-header-spec : {M : Type 1} → statement M
+write-header-spec =
+    tie.close
+    (tie.spec
+    (λ c κs. search needs)  -- write-numbers-requires
+    (λ c κs. search needs)  -- write-counts-requires
+    (λ c. search needs)  -- same-length
+    (λ c. cc)  -- returns
+    )

@@ -1,0 +1,18 @@
+-- The proof that `fresh::write_numbers` keeps its contract.
+use borrow.Author.Needs.{needs}
+use Rattle.tables.proofs.fresh.write_numbers.Statement.{statement}
+use Rattle.tables.proofs.fresh.write_numbers.Tie as tie
+
+pub write-numbers-spec : {M : Type 1} → statement M
+write-numbers-spec =
+    tie.close
+    (tie.spec
+    (λ c. search needs)  -- cast-put-at
+    (λ c κs. search needs)  -- put-at-requires
+    (λ c. search needs)  -- cast-put-at-2
+    (λ c κs. search needs)  -- put-at-requires-2
+    (λ c. search needs)  -- cast-put-at-3
+    (λ c κs. search needs)  -- put-at-requires-3
+    (λ c. search needs)  -- same-length
+    (λ c. cc)  -- returns
+    )

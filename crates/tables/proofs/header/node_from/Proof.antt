@@ -1,0 +1,16 @@
+-- The proof that `header::node_from` keeps its contract.
+use borrow.Author.Needs.{needs}
+use native.Mathlib.Omega.{arith}
+use Rattle.tables.proofs.header.node_from.Statement.{statement}
+use Rattle.tables.proofs.header.node_from.Tie as tie
+
+pub node-from-spec : {M : Type 1} → statement M
+node-from-spec =
+    tie.close
+    (tie.spec
+    (λ c κs. search needs)  -- prev-requires
+    (λ c κs. search needs)  -- node-words-requires
+    (λ c κs. search needs)  -- times-requires
+    (λ c. search needs)  -- add-result
+    (λ c. (cc, omega arith))  -- returns
+    )

@@ -1,0 +1,31 @@
+-- The proof that `keys::greater_at` keeps its contract.
+use borrow.Author.Needs.{needs}
+use mathlib.Core.Path.{_≡_}
+use Prim.Native.Nat.{_≤_, _-_, _+_}
+use lib.ListN.{drop}
+use Rattle.tables.specs.Keys.{keysOf, greaterAt}
+use Rattle.tables.proofs.Keyed.{firsts, first-start}
+use Rattle.tables.proofs.keys.greater_at.Statement.{statement}
+use Rattle.tables.proofs.keys.greater_at.Tie as tie
+
+abbrev Inv-loop : tie.InvT-loop
+Inv-loop block h node count key n i₀ i = (i ≤ n) × (greaterAt key (keysOf block h node count) ≡ i + greaterAt key (drop i (keysOf block h node count)))
+
+abbrev μ-loop : tie.MeasureT-loop
+μ-loop block h node count key n i₀ i = n - i
+
+pub greater-at-spec : {M : Type 1} → statement M
+greater-at-spec =
+    tie.close
+    (tie.spec
+    Inv-loop
+    μ-loop
+    (λ c. search (needs, first-start))  -- loop-holds
+    (λ c. search (needs, firsts))  -- add-key-word
+    (λ c κs. search (needs, firsts))  -- key-word-requires
+    (λ c. search (needs, firsts))  -- returns
+    (λ c. search (needs, firsts))  -- add-i
+    (λ c. search (needs, firsts))  -- loop-less
+    (λ c. search (needs, firsts))  -- loop-again
+    (λ c. search (needs, firsts))  -- returns-2
+    )

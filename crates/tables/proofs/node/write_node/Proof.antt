@@ -1,0 +1,38 @@
+-- The proof that `node::write_node` keeps its contract.
+use borrow.Author.Needs.{needs}
+use mathlib.Core.Path.{_≡_}
+use Prim.Native.Nat.{_≤_, _-_, _+_, _*_}
+use native.Mathlib.Omega.{arith}
+use lib.ListN.{length}
+use lib.Seq.{sets}
+use Rattle.tables.specs.Choice.{listed}
+use Rattle.tables.specs.Node.{imageWord}
+use Rattle.tables.proofs.Lists.{setting, sets-start}
+use Rattle.tables.proofs.node.write_node.Statement.{statement}
+use Rattle.tables.proofs.node.write_node.Tie as tie
+
+abbrev Inv-loop : tie.InvT-loop
+Inv-loop block₀ h node tag keys first pending k n o₀ block o = (o ≤ n) × ((length block ≡ length block₀) × (sets block₀ (6 + (node - 1) * (2 * h .k + 1) + 0) (listed (imageWord (h .k) tag keys first pending) 0 n) ≡ sets block (6 + (node - 1) * (2 * h .k + 1) + o) (listed (imageWord (h .k) tag keys first pending) o (n - o))))
+
+abbrev μ-loop : tie.MeasureT-loop
+μ-loop block₀ h node tag keys first pending k n o₀ block o = n - o
+
+pub write-node-spec : {M : Type 1} → statement M
+write-node-spec =
+    tie.close
+    (tie.spec
+    Inv-loop
+    μ-loop
+    (λ c. search (needs, setting))  -- cast-n
+    (λ c. search (needs, setting))  -- mul-n
+    (λ c. search (needs, setting))  -- add-n
+    (λ c. search (needs, sets-start))  -- loop-holds
+    (λ c κs. search (needs, setting))  -- image-word-requires
+    (λ c κs. search (needs, setting))  -- node-at-requires
+    (λ c κs. search (needs, setting))  -- put-at-requires
+    (λ c. search (needs, setting))  -- add-o
+    (λ c. search (needs, setting))  -- loop-less
+    (λ c. (search needs, (omega arith, search setting)))  -- loop-again
+    (λ c. search (needs, setting))  -- same-length
+    (λ c. search (needs, setting))  -- returns
+    )
