@@ -1,21 +1,23 @@
 -- What a good header says of its numbers, and the header's reading, return by return.
 use Prim.Native.Nat.{ℕ, _+_, _*_, _-_, _/_, _≤_, _<_}
-use mathlib.Core.Path.{_≡_, sym, _∙_}
-use mathlib.Core.Bool.{Bool, true, false}
+use mathlib.Core.Path.{_≡_, refl, sym, ap, subst, _∙_}
+use mathlib.Core.Bool.{Bool, true, false, not}
 use mathlib.Core.List.{List}
 use native.Mathlib.Omega.{arith}
 use native.Mathlib.Nat.{div-zero, zero-div}
-use borrow.Author.Tests.{leb-true, lt-ltb, le-ltb}
+use borrow.Author.Tests.{leb-true, ltb-false, not-false, lt-ltb, le-ltb}
 use mir.Val.{Fits}
 use mir.Syntax.{w8, w16}
-use lib.Dec.{leb}
+use lib.Dec.{leb, ltb}
 use lib.ListN.{length}
-use Rattle.tables.specs.Choice.{pick, both, within}
-use Rattle.tables.specs.Numbers.{lowestK, highestK, mostProcesses, mostNodes, freshNodes, mostRecords, numbersGood}
+use Rattle.tables.specs.Choice.{pick, both, within, decide}
+use Rattle.tables.specs.Numbers.{lowestK, highestK, mostProcesses, mostNodes, freshNodes, headerWords, mostRecords, numbersGood}
 use Rattle.tables.specs.Layout.{blockWords}
-use Rattle.tables.specs.Header.{headerOf, headerGood, headerRead}
+use Rattle.tables.specs.Refusal.{refusal}
+use Rattle.tables.specs.Header.{headerOf, headerGood, blockReasons, headerRefused, headerRead}
 use Rattle.tables.specs.declared.header.Header.{Header}
 use Rattle.tables.specs.declared.header.HeaderRead.the-variants.{Good, Refused}
+use Rattle.tables.specs.declared.numbers.Refusal.{Refusal}
 use Rattle.tables.specs.declared.numbers.Refusal.the-variants.{TooShort, Damaged}
 use Rattle.tables.proofs.Picks.{both-1, both-2, within-low, within-high}
 
@@ -148,3 +150,44 @@ depth-none n k e = rw e (sym (div-zero _))
 
 pub depth-short : (n k : ℕ) → n < freshNodes k → 0 ≡ (n - freshNodes k) / k
 depth-short n k p = let e : n - freshNodes k ≡ 0 = omega arith in rw e (sym (zero-div k))
+
+-- what a call does with a header that it has read: a refusal passes on, a good header is that of the block, and the call's own reasons follow
+good-tests : (t u v : Bool) (g h : Header) → pick t (headerRefused 2) (pick u (headerRefused 3) (pick v (headerRefused 2) (Good g))) ≡ Good h →
+    (t ≡ false) × (u ≡ false) × (v ≡ false) × (g ≡ h)
+unfolding pick
+good-tests true u v g h e = let z : _≡_ {A = ℕ} 0 1 = cc in absurd (omega arith)
+good-tests false true v g h e = let z : _≡_ {A = ℕ} 0 1 = cc in absurd (omega arith)
+good-tests false false true g h e = let z : _≡_ {A = ℕ} 0 1 = cc in absurd (omega arith)
+good-tests false false false g h e = (refl, refl, refl, cc)
+
+block-tests : (b : List ℕ) (h : Header) → headerRead b ≡ Good h →
+    (ltb (length b) headerWords ≡ false) × (not (headerGood (headerOf b)) ≡ false) × (ltb (length b) (blockWords (headerOf b)) ≡ false) × (headerOf b ≡ h)
+block-tests b h e =
+    good-tests (ltb (length b) headerWords) (not (headerGood (headerOf b))) (ltb (length b) (blockWords (headerOf b))) (headerOf b) h e
+
+pub read-header : (b : List ℕ) (h : Header) → headerRead b ≡ Good h → headerOf b ≡ h
+read-header b h e = block-tests b h e .3
+
+pub read-limits : (b : List ℕ) (h : Header) → headerRead b ≡ Good h → headerGood h ≡ true
+read-limits b h e = ap headerGood (sym (read-header b h e)) ∙ not-false (headerGood (headerOf b)) (block-tests b h e .1)
+
+pub read-room : (b : List ℕ) (h : Header) → headerRead b ≡ Good h → blockWords h ≤ length b
+read-room b h e =
+    let z : blockWords (headerOf b) ≤ length b = ltb-false (length b) (blockWords (headerOf b)) (block-tests b h e .2) in
+    subst (λ (g : Header). blockWords g ≤ length b) (read-header b h e) z
+
+module _ {A : Type 0} (say : Refusal → A) (accepting : A) (b : List ℕ) where
+  refused-on : (t u v : Bool) (g : Header) (e : Refusal) → pick t (headerRefused 2) (pick u (headerRefused 3) (pick v (headerRefused 2) (Good g))) ≡ Refused e →
+      say e ≡ pick t (say (refusal 2)) (pick u (say (refusal 3)) (pick v (say (refusal 2)) accepting))
+  unfolding pick
+  refused-on true u v g e f = ap say (let z : e ≡ refusal 2 = cc in z)
+  refused-on false true v g e f = ap say (let z : e ≡ refusal 3 = cc in z)
+  refused-on false false true g e f = ap say (let z : e ≡ refusal 2 = cc in z)
+  refused-on false false false g e f = let z : _≡_ {A = ℕ} 0 1 = cc in absurd (omega arith)
+
+  pub read-refuses : (e : Refusal) → headerRead b ≡ Refused e → say e ≡ decide (blockReasons b) (λ n. say (refusal n)) accepting
+  read-refuses e f = refused-on _ _ _ _ e f
+
+  pub read-accepts : (h : Header) → headerRead b ≡ Good h → accepting ≡ decide (blockReasons b) (λ n. say (refusal n)) accepting
+  unfolding pick
+  read-accepts h f = let z = block-tests b h f in rw (z .0, z .1, z .2) refl
