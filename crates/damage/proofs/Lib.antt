@@ -1,0 +1,2 @@
+-- The laws of the damage checks, return by return.
+pub mod Laws

@@ -1,0 +1,7 @@
+-- The laws of start and the fourteen points: return by return, then the theorems on refusals and touches.
+pub mod Rowed
+pub mod Helps
+pub mod Searches
+pub mod Flags
+pub mod Finishes
+pub mod Steps

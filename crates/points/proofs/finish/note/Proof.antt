@@ -1,0 +1,16 @@
+use borrow.Author.Needs.{needs}
+use Rattle.points.proofs.Finishes.{notings}
+use Rattle.points.proofs.finish.note.Statement.{statement}
+use Rattle.points.proofs.finish.note.Tie as tie
+
+pub note-spec : {M : Type 1} → statement M
+note-spec =
+    tie.close
+    (tie.spec
+    (λ c κs. search needs)  -- first-noted-requires
+    (λ c κs. search needs)  -- other-with-requires
+    (λ c κs. search needs)  -- noted-requires
+    (λ c κs. search needs)  -- damaged-requires
+    (λ c. search notings)  -- returns
+    (λ c. search notings)  -- returns-2
+    )

@@ -1,0 +1,12 @@
+use borrow.Author.Needs.{needs}
+use Rattle.tables.proofs.Picks.{picks}
+use Rattle.points.proofs.finish.other_with.Statement.{statement}
+use Rattle.points.proofs.finish.other_with.Tie as tie
+
+pub other-with-spec : {M : Type 1} → statement M
+other-with-spec =
+    tie.close
+    (tie.spec
+    (λ c. search picks)  -- returns
+    (λ c. search picks)  -- returns-2
+    )

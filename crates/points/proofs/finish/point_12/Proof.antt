@@ -1,0 +1,15 @@
+use borrow.Author.Needs.{needs}
+use Rattle.points.specs.Rows.{row12}
+use Rattle.points.proofs.finish.point_12.Statement.{statement}
+use Rattle.points.proofs.finish.point_12.Tie as tie
+
+pub point-12-spec : {M : Type 1} → statement M
+unfolding row12
+point-12-spec =
+    tie.close
+    (tie.spec
+    (λ c κs. search needs)  -- helped-third-requires
+    (λ c κs. search needs)  -- helped-p-requires
+    (λ c κs. search needs)  -- look-requires
+    (λ c. cc)  -- returns
+    )

@@ -1,0 +1,16 @@
+use borrow.Author.Needs.{needs}
+use Rattle.points.specs.Rows.{row13}
+use Rattle.points.proofs.finish.point_13.Statement.{statement}
+use Rattle.points.proofs.finish.point_13.Tie as tie
+
+pub point-13-spec : {M : Type 1} → statement M
+unfolding row13
+point-13-spec =
+    tie.close
+    (tie.spec
+    (λ c κs. search needs)  -- helped-third-requires
+    (λ c κs. search needs)  -- helped-p-requires
+    (λ c κs. search needs)  -- hang-requires
+    (λ c. search needs)  -- same-length
+    (λ c. cc)  -- returns
+    )

@@ -1,0 +1,17 @@
+use borrow.Author.Needs.{needs}
+use Rattle.points.specs.Rows.{row7}
+use Rattle.points.proofs.finish.point_7.Statement.{statement}
+use Rattle.points.proofs.finish.point_7.Tie as tie
+
+pub point-7-spec : {M : Type 1} → statement M
+unfolding row7
+point-7-spec =
+    tie.close
+    (tie.spec
+    (λ c κs. search needs)  -- helped-p-requires
+    (λ c κs. search needs)  -- helped-l-requires
+    (λ c κs. search needs)  -- helped-third-requires
+    (λ c κs. search needs)  -- hang-requires
+    (λ c. search needs)  -- same-length
+    (λ c. cc)  -- returns
+    )

@@ -1,0 +1,15 @@
+use borrow.Author.Needs.{needs}
+use Rattle.points.specs.Rows.{row8}
+use Rattle.points.proofs.finish.point_8.Statement.{statement}
+use Rattle.points.proofs.finish.point_8.Tie as tie
+
+pub point-8-spec : {M : Type 1} → statement M
+unfolding row8
+point-8-spec =
+    tie.close
+    (tie.spec
+    (λ c κs. search needs)  -- helped-p-requires
+    (λ c κs. search needs)  -- unflag-requires
+    (λ c. search needs)  -- same-length
+    (λ c. cc)  -- returns
+    )

@@ -1,0 +1,14 @@
+use borrow.Author.Needs.{needs}
+use Rattle.points.proofs.finish.pop.Statement.{statement}
+use Rattle.points.proofs.finish.pop.Tie as tie
+
+pub pop-spec : {M : Type 1} → statement M
+pop-spec =
+    tie.close
+    (tie.spec
+    (λ c κs. search needs)  -- prev-requires
+    (λ c κs. search needs)  -- stack-at-requires
+    (λ c κs. search needs)  -- put-at-requires
+    (λ c. search needs)  -- same-length
+    (λ c. cc)  -- returns
+    )

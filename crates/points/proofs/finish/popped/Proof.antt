@@ -1,0 +1,14 @@
+use borrow.Author.Needs.{needs}
+use Rattle.points.proofs.Helps.{ended-same}
+use Rattle.points.proofs.finish.popped.Statement.{statement}
+use Rattle.points.proofs.finish.popped.Tie as tie
+
+pub popped-spec : {M : Type 1} → statement M
+popped-spec =
+    tie.close
+    (tie.spec
+    (λ c κs. search needs)  -- prev-requires
+    (λ c κs. search needs)  -- with-depth-requires
+    (λ c κs. search needs)  -- help-ended-requires
+    (λ c. cc)  -- returns
+    )

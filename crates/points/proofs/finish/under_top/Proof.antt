@@ -1,0 +1,13 @@
+use borrow.Author.Needs.{needs}
+use Rattle.points.proofs.finish.under_top.Statement.{statement}
+use Rattle.points.proofs.finish.under_top.Tie as tie
+
+pub under-top-spec : {M : Type 1} → statement M
+under-top-spec =
+    tie.close
+    (tie.spec
+    (λ c κs. search needs)  -- prev-requires
+    (λ c κs. search needs)  -- prev-requires-2
+    (λ c κs. search needs)  -- stack-word-requires
+    (λ c. cc)  -- returns
+    )

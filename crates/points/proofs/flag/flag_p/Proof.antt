@@ -1,0 +1,19 @@
+use borrow.Author.Needs.{needs}
+use Rattle.points.proofs.Flags.{flags}
+use Rattle.points.proofs.flag.flag_p.Statement.{statement}
+use Rattle.points.proofs.flag.flag_p.Tie as tie
+
+pub flag-p-spec : {M : Type 1} → statement M
+flag-p-spec =
+    tie.close
+    (tie.spec
+    (λ c κs. search needs)  -- word-of-requires
+    (λ c κs. search needs)  -- job-of-requires
+    (λ c κs. search needs)  -- draw-replace-requires
+    (λ c κs. search needs)  -- drawn-replace-requires
+    (λ c κs. search needs)  -- help-seen-requires
+    (λ c. search needs)  -- same-length
+    (λ c. search flags)  -- returns
+    (λ c. search needs)  -- same-length-2
+    (λ c. search flags)  -- returns-2
+    )

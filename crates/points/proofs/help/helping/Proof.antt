@@ -1,0 +1,25 @@
+use borrow.Author.Needs.{needs}
+use Rattle.points.proofs.Helps.{helped}
+use Rattle.points.proofs.help.helping.Statement.{statement}
+use Rattle.points.proofs.help.helping.Tie as tie
+
+pub helping-spec : {M : Type 1} → statement M
+helping-spec =
+    tie.close
+    (tie.spec
+    (λ c. search needs)  -- enum-told
+    (λ c κs. search needs)  -- help-ended-requires
+    (λ c. search needs)  -- enum-known-seen
+    (λ c κs. search needs)  -- to-six-requires
+    (λ c κs. search needs)  -- goes-on-requires
+    (λ c. search needs)  -- enum-known-seen-2
+    (λ c κs. search needs)  -- to-nine-requires
+    (λ c κs. search needs)  -- goes-on-requires-2
+    (λ c. search needs)  -- enum-known-seen-3
+    (λ c κs. search needs)  -- to-eleven-requires
+    (λ c κs. search needs)  -- goes-on-requires-3
+    (λ c. search helped)  -- returns
+    (λ c. search helped)  -- returns-2
+    (λ c. search helped)  -- returns-3
+    (λ c. search helped)  -- returns-4
+    )

@@ -1,0 +1,14 @@
+use borrow.Author.Needs.{needs}
+use Rattle.tables.proofs.Picks.{picks}
+use Rattle.points.proofs.help.swap.Statement.{statement}
+use Rattle.points.proofs.help.swap.Tie as tie
+
+pub swap-spec : {M : Type 1} → statement M
+swap-spec =
+    tie.close
+    (tie.spec
+    (λ c κs. search needs)  -- put-at-requires
+    (λ c. search needs)  -- same-length
+    (λ c. search (needs, picks))  -- returns
+    (λ c. search (needs, picks))  -- returns-2
+    )

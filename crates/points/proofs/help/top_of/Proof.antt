@@ -1,0 +1,12 @@
+use borrow.Author.Needs.{needs}
+use Rattle.points.proofs.help.top_of.Statement.{statement}
+use Rattle.points.proofs.help.top_of.Tie as tie
+
+pub top-of-spec : {M : Type 1} → statement M
+top-of-spec =
+    tie.close
+    (tie.spec
+    (λ c κs. search needs)  -- prev-requires
+    (λ c κs. search needs)  -- stack-word-requires
+    (λ c. cc)  -- returns
+    )

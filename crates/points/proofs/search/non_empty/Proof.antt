@@ -1,0 +1,15 @@
+use borrow.Author.Needs.{needs}
+use Rattle.points.proofs.Searches.{scans}
+use Rattle.points.proofs.search.non_empty.Statement.{statement}
+use Rattle.points.proofs.search.non_empty.Tie as tie
+
+pub non-empty-spec : {M : Type 1} → statement M
+non-empty-spec =
+    tie.close
+    (tie.spec
+    (λ c. search needs)  -- enum-known-kin
+    (λ c. search needs)  -- enum-told
+    (λ c. search needs)  -- returns
+    (λ c. search scans)  -- returns-2
+    (λ c. search needs)  -- returns-3
+    )

@@ -1,0 +1,3 @@
+-- The process record and what a step answers, as definitions.
+pub mod Process
+pub mod Answer
