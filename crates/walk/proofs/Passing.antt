@@ -10,14 +10,14 @@ use lib.Seq.{sets, length-sets}
 use Rattle.tables.specs.Choice.{pick, both, within, listed}
 use Rattle.tables.specs.Layout.{keyWord}
 use Rattle.tables.specs.Keys.{keysOf, rises}
-use Rattle.tables.specs.Node.{childOf}
+use Rattle.tables.specs.Node.{kinOf, childOf}
 use Rattle.tables.specs.declared.header.Header.{Header}
 use Rattle.tables.specs.declared.node.Kin.{Kin}
 use Rattle.tables.specs.declared.node.Kin.the-variants.{Leaf, Internal}
 use Rattle.tables.specs.declared.node.Child.{Child}
 use Rattle.tables.specs.declared.node.Child.the-variants.{Node, Damaged}
 use Rattle.tables.proofs.Keyed.{keys-length}
-use Rattle.walk.specs.Walk.{Walk, walk, begin, damaged, leafMet, metFrom}
+use Rattle.walk.specs.Walk.{Walk, walk, begin, damaged, leafMet, metFrom, walked}
 use Rattle.walk.specs.Calls.{either, anyWithin}
 use Rattle.walk.specs.Passes.{measureOf, measured, spentMeter, damagedMeter, spentFilling, Measured, Filled}
 use Rattle.walk.specs.declared.meter.Meter.{Meter}
@@ -112,10 +112,6 @@ module _ (low high : ℕ) where
       (omega (arith, length-append (w .keys) (x .keys)))
       (either-assoc (m .found) _ _ ∙ ap (either (m .found)) (sym (any-append low high (w .keys) (x .keys))))
       (both-assoc (m .sound) (w .sound) (x .sound))
-
-  pub measured-all : (w : Walk) (r : Meter) → Measured low high (record { allowed = w .allowed; count = 0; found = false; sound = true }) w r → r ≡ measureOf low high w
-  unfolding pick both
-  measured-all w r p = p .is ∙ same-meter (w .allowed) _ _ _ _ _ _ (omega arith) refl refl
 
   pub leaf-measured : (b : List ℕ) (h : Header) (node count : ℕ) (m : Meter) (found rising f s : Bool) → 0 < m .allowed → count < 256 →
       found ≡ anyWithin low high (keysOf b h node count) → rising ≡ rises (keysOf b h node count) → f ≡ either (m .found) found → s ≡ both (m .sound) rising →
@@ -243,3 +239,34 @@ module _ (b : List ℕ) (h : Header) where
           fewer = omega (arith, p .fewer, q .fewer);
           room = omega (arith, p .room, q .room);
         }
+
+-- the whole walk, from node 1
+module _ (b : List ℕ) (h : Header) (root : Child) (e : root ≡ kinOf b h 1) where
+  pub measured-all : (low high : ℕ) (r : Meter) →
+      Measured low high (record { allowed = h .nodesused; count = 0; found = false; sound = true }) (metFrom b h root (h .nodesused)) r → r ≡ measureOf low high (walked b h)
+  unfolding pick both
+  measured-all low high r p = p .is ∙ same-meter _ _ _ _ _ _ _ (omega arith) refl refl ∙ ap (λ (c : Child). measureOf low high (metFrom b h c (h .nodesused))) e
+
+  pub filled-all : (list list′ : List ℕ) (r : Filling) → Filled list (record { allowed = h .nodesused; at = 0 }) (metFrom b h root (h .nodesused)) list′ r →
+      list′ ≡ sets list 0 (walked b h .keys)
+  filled-all list list′ r p = p .stored ∙ ap (λ (c : Child). sets list 0 (metFrom b h c (h .nodesused) .keys)) e
+
+pub filled-length : (list list′ : List ℕ) (f r : Filling) (w : Walk) → Filled list f w list′ r → length list′ ≡ length list
+filled-length list list′ f r w p = stored-length list list′ (w .keys) (f .at) (p .stored)
+
+-- what ends the recursion, and what keeps its numbers small: a node fewer, and what hangs below it
+pub meter-falls : (m v v′ : Meter) (t : ℕ) → v ≡ spentMeter m → (m .allowed ≡ 0 → ⊥) → v′ .allowed ≤ v .allowed → m .allowed ≡ t → v′ .allowed < t
+meter-falls m v v′ t e some p f = omega (arith, ap (λ (x : Meter). x .allowed) e)
+
+pub meter-room : (m v : Meter) → v ≡ spentMeter m → m .count + 255 * m .allowed ≤ 16777216 → v .count + 255 * v .allowed ≤ 16777216
+meter-room m v e p = rw e (omega arith)
+
+pub filling-falls : (f v v′ : Filling) (t : ℕ) → v ≡ spentFilling f → (f .allowed ≡ 0 → ⊥) → v′ .allowed ≤ v .allowed → f .allowed ≡ t → v′ .allowed < t
+filling-falls f v v′ t e some p g = omega (arith, ap (λ (x : Filling). x .allowed) e)
+
+pub filling-room : (f v : Filling) → v ≡ spentFilling f → f .at + 255 * f .allowed ≤ 16777216 → v .at + 255 * v .allowed ≤ 16777216
+filling-room f v e p = rw e (omega arith)
+
+pub ruleset measuring = (measure-none, measure-damaged, measure-leaf, measure-children)
+
+pub ruleset filling = (fill-none, fill-damaged, fill-leaf, fill-children)
