@@ -102,7 +102,7 @@ module _ (b list list′ : List ℕ) (l : Listed) (n : ℕ) (e : listOut l list�
 module _ (b : List ℕ) (h : Header) (low high : ℕ) where
   pub range-low : low ≡ infinity → RangeRefused InfinityGiven ≡ rangeGood b h low high
   unfolding pick
-  range-low e = cc (eq-eqb low infinity e)
+  range-low e = cc
 
   pub range-high : (low ≡ infinity → ⊥) → high ≡ infinity → RangeRefused InfinityGiven ≡ rangeGood b h low high
   unfolding pick

@@ -2,3 +2,5 @@
 pub mod Walks
 pub mod Passing
 pub mod Calling
+pub mod Answers
+pub mod Examples
