@@ -12,7 +12,7 @@ use Rattle.tables.specs.Fresh.{overFront}
 use Rattle.tables.specs.declared.numbers.Refusal.{Refusal}
 use Rattle.tables.proofs.OneToOne.{refusal-number, none-accepts, tells, accepted-none, first-answers, answers-first}
 use Rattle.tables.proofs.Picks.{within-low, within-high}
-use Rattle.walk.specs.Answer.{Said, answered, refusedBy, listedSays, clearedSays, cleared}
+use Rattle.walk.specs.Answer.{answered, refusedBy, listedSays, clearedSays, cleared}
 use Rattle.walk.specs.Calls.{keysMet, listReasons, ListOut, listOut, listOf, either, anyWithin, rangeReasons, rangeOf}
 use Rattle.walk.specs.declared.Listed.{Listed}
 use Rattle.walk.specs.declared.Listed.the-variants.{Count, Refused as ListRefused}

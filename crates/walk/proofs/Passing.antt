@@ -1,5 +1,5 @@
 -- The two passes, return by return and turn by turn: each keeps what its definition says of the walk.
-use Prim.Native.Nat.{ℕ, zero, suc, _+_, _*_, _-_, _≤_, _<_}
+use Prim.Native.Nat.{ℕ, zero, suc, _+_, _-_, _≤_, _<_}
 use mathlib.Core.Path.{_≡_, refl, sym, ap, subst, _∙_}
 use mathlib.Core.Bool.{Bool, true, false}
 use mathlib.Core.List.{List, [], _∷_, _++_}
@@ -17,9 +17,9 @@ use Rattle.tables.specs.declared.node.Kin.the-variants.{Leaf, Internal}
 use Rattle.tables.specs.declared.node.Child.{Child}
 use Rattle.tables.specs.declared.node.Child.the-variants.{Node, Damaged}
 use Rattle.tables.proofs.Keyed.{keys-length}
-use Rattle.walk.specs.Walk.{Walk, walk, begin, damaged, leafMet, metFrom, walked}
+use Rattle.walk.specs.Walk.{Walk, begin, damaged, leafMet, metFrom, walked}
 use Rattle.walk.specs.Calls.{either, anyWithin}
-use Rattle.walk.specs.Passes.{measureOf, measured, spentMeter, damagedMeter, spentFilling, Measured, Filled}
+use Rattle.walk.specs.Passes.{Roomy, measureOf, measured, spentMeter, damagedMeter, spentFilling, Measured, Filled}
 use Rattle.walk.specs.declared.meter.Meter.{Meter}
 use Rattle.walk.specs.declared.fill.Filling.{Filling}
 use Rattle.walk.proofs.Walks.{both-false, both-true, both-assoc, after, children, met-leaf, met-internal, met-damaged, met-none, child-more, child-none}
@@ -258,13 +258,13 @@ filled-length list list′ f r w p = stored-length list list′ (w .keys) (f .at
 pub meter-falls : (m v v′ : Meter) (t : ℕ) → v ≡ spentMeter m → (m .allowed ≡ 0 → ⊥) → v′ .allowed ≤ v .allowed → m .allowed ≡ t → v′ .allowed < t
 meter-falls m v v′ t e some p f = omega (arith, ap (λ (x : Meter). x .allowed) e)
 
-pub meter-room : (m v : Meter) → v ≡ spentMeter m → m .count + 255 * m .allowed ≤ 16777216 → v .count + 255 * v .allowed ≤ 16777216
+pub meter-room : (m v : Meter) → v ≡ spentMeter m → Roomy (m .count) (m .allowed) → Roomy (v .count) (v .allowed)
 meter-room m v e p = rw e (omega arith)
 
 pub filling-falls : (f v v′ : Filling) (t : ℕ) → v ≡ spentFilling f → (f .allowed ≡ 0 → ⊥) → v′ .allowed ≤ v .allowed → f .allowed ≡ t → v′ .allowed < t
 filling-falls f v v′ t e some p g = omega (arith, ap (λ (x : Filling). x .allowed) e)
 
-pub filling-room : (f v : Filling) → v ≡ spentFilling f → f .at + 255 * f .allowed ≤ 16777216 → v .at + 255 * v .allowed ≤ 16777216
+pub filling-room : (f v : Filling) → v ≡ spentFilling f → Roomy (f .at) (f .allowed) → Roomy (v .at) (v .allowed)
 filling-room f v e p = rw e (omega arith)
 
 pub ruleset measuring = (measure-none, measure-damaged, measure-leaf, measure-children)

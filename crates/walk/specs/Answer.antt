@@ -1,6 +1,6 @@
 -- What listing and range answer, by document 01's numbers.
 use Prim.Native.Nat.{ℕ}
-use mathlib.Core.List.{List, [], _∷_}
+use mathlib.Core.List.{[], _∷_}
 use lib.ListN.{getD}
 use Rattle.tables.specs.Refusal.{numberOf}
 use Rattle.walk.specs.declared.Listed.{Listed}

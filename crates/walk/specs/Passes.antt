@@ -44,7 +44,11 @@ damagedMeter m = record { allowed = m .allowed; count = m .count; found = m .fou
 abbrev pub spentFilling : Filling → Filling
 spentFilling f = record { allowed = f .allowed - 1; at = f .at }
 
--- what the recursion of the measuring pass promises; a leaf has at most 255 keys, so that no count overflows
+-- A leaf's count is a byte and the nodes allowed are 16 bits, so that a pass that starts at 0 keeps this room, and no count overflows.
+abbrev pub Roomy : ℕ → ℕ → Type 0
+Roomy count allowed = count + 255 * allowed ≤ 16777216
+
+-- what the recursion of the measuring pass promises
 pub record Measured (low high : ℕ) (m : Meter) (w : Walk) (r : Meter) : Type 0 where
   pub is : r ≡ measured low high m w
   pub fewer : r .allowed ≤ m .allowed

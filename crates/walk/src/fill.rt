@@ -1,10 +1,10 @@
 // The filling pass: a walk's keys stored in a lent list, from its front.
 ghost use mathlib.Core.Path.{_≡_};
-ghost use Prim.Native.Nat.{_+_, _*_, _-_, _≤_, _<_};
+ghost use Prim.Native.Nat.{_-_, _<_};
 ghost use lib.Seq.{sets};
 ghost use Rattle.tables.specs.Keys.{keysOf};
 ghost use Rattle.walk.specs.Walk.{begin, leafMet, metFrom, walked};
-ghost use Rattle.walk.specs.Passes.{Filled, spentFilling};
+ghost use Rattle.walk.specs.Passes.{Roomy, Filled, spentFilling};
 use tables::header;
 use tables::header::Header;
 use tables::node;
@@ -30,7 +30,7 @@ fn spent(f: Filling) -> Filling
 
 // A leaf's keys, one behind the other.
 fn store_keys(block: &[u32], h: Header, node: u32, count: u8, list: &mut [u32], at: u32)
-    requires { ⌜ at ≤ 16777216 ⌝ }
+    requires { ⌜ Roomy at 0 ⌝ }
     ensures { λ r. ⌜ now (list .exit) ≡ sets (now (list .entry)) at (keysOf (now (block .entry)) h node count) ⌝ }
 {
     let n = count as u32;
@@ -50,7 +50,7 @@ fn fill_leaf(
     list: &mut [u32],
     f: Filling,
 ) -> Filling
-    requires { ⌜ (0 < f .allowed) × (f .at + 255 * f .allowed ≤ 16777216) ⌝ }
+    requires { ⌜ (0 < f .allowed) × (Roomy (f .at) (f .allowed)) ⌝ }
     ensures { λ r. ⌜ Filled (now (list .entry)) f (leafMet (now (block .entry)) h node count (begin (f .allowed - 1))) (now (list .exit)) r ⌝ }
 {
     store_keys(block, h, node, count, list, f.at);
@@ -62,7 +62,7 @@ fn fill_leaf(
 
 // The walk down from a node, ended by the number of nodes still allowed.
 fn fill(block: &[u32], h: Header, child: Child, list: &mut [u32], f: Filling) -> Filling
-    requires { ⌜ f .at + 255 * f .allowed ≤ 16777216 ⌝ }
+    requires { ⌜ Roomy (f .at) (f .allowed) ⌝ }
     ensures { λ r. ⌜ Filled (now (list .entry)) f (metFrom (now (block .entry)) h child (f .allowed)) (now (list .exit)) r ⌝ }
 {
     if f.allowed == 0 {

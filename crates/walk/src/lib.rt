@@ -1,15 +1,12 @@
 // Listing and range of document 01: single calls, lent the block without the process row.
 // Every public function is total: it asks nothing of its caller and states its result, and every lent word, on every input.
 ghost use mathlib.Core.Path.{_≡_};
-ghost use Prim.Native.Nat.{_≤_};
-ghost use lib.ListN.{length};
 ghost use Rattle.walk.specs.Calls.{listOut, listOf, partOf, rangeOf};
 ghost use Rattle.walk.specs.Passes.{listGood, rangeGood, filledOf};
 
 mod fill;
 mod meter;
 
-use tables::choice;
 use tables::header;
 use tables::header::Header;
 use tables::header::HeaderRead;
@@ -66,6 +63,7 @@ fn filled_of(listed: Listed) -> u32
 }
 
 // "a twin call does the same and hands back the filled part of the caller's list, empty if refused": the list's front.
+// A list that is handed on is spent, and no clause can speak of its other words at exit; all that is done to them is `listing`'s to say.
 pub fn listing_part<'a>(block: &[u32], list: &'a mut [u32]) -> &'a mut [u32]
     ensures { λ r. ⌜ (now r ≡ partOf (now (block .entry)) (now (list .entry))) × (r .ptr ≡ list .entry .ptr) ⌝ }
 {

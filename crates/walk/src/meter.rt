@@ -1,11 +1,11 @@
 // The measuring pass: how many keys a walk meets, whether one of them lies in a range, and whether all was sound.
 ghost use mathlib.Core.Path.{_≡_};
-ghost use Prim.Native.Nat.{_+_, _*_, _-_, _≤_, _<_};
+ghost use Prim.Native.Nat.{_-_, _<_};
 ghost use Rattle.tables.specs.Keys.{keysOf};
 ghost use Rattle.walk.specs.Walk.{begin, leafMet, metFrom, walked};
 ghost use Rattle.walk.specs.Calls.{anyWithin};
 ghost use Rattle.walk.specs.Calls.{either as eitherOf};
-ghost use Rattle.walk.specs.Passes.{measureOf, Measured, spentMeter, damagedMeter};
+ghost use Rattle.walk.specs.Passes.{Roomy, measureOf, Measured, spentMeter, damagedMeter};
 use tables::choice;
 use tables::header;
 use tables::header::Header;
@@ -54,7 +54,7 @@ fn measure_leaf(
     high: u32,
     m: Meter,
 ) -> Meter
-    requires { ⌜ (0 < m .allowed) × (m .count + 255 * m .allowed ≤ 16777216) ⌝ }
+    requires { ⌜ (0 < m .allowed) × (Roomy (m .count) (m .allowed)) ⌝ }
     ensures { λ r. ⌜ Measured low high m (leafMet (now (block .entry)) h node count (begin (m .allowed - 1))) r ⌝ }
 {
     let found = leaf_within(block, h, node, count, low, high);
@@ -92,7 +92,7 @@ fn damaged(m: Meter) -> Meter
 
 // The walk down from a node, ended by the number of nodes still allowed.
 fn measure(block: &[u32], h: Header, child: Child, low: u32, high: u32, m: Meter) -> Meter
-    requires { ⌜ m .count + 255 * m .allowed ≤ 16777216 ⌝ }
+    requires { ⌜ Roomy (m .count) (m .allowed) ⌝ }
     ensures { λ r. ⌜ Measured low high m (metFrom (now (block .entry)) h child (m .allowed)) r ⌝ }
 {
     if m.allowed == 0 {

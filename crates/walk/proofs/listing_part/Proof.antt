@@ -1,6 +1,5 @@
 -- The proof that `listing_part` keeps its contract.
 use borrow.Author.Needs.{needs}
-use mathlib.Core.Path.{sym}
 use Rattle.walk.proofs.Calling.{part-is, part-length}
 use Rattle.walk.proofs.listing_part.Statement.{statement}
 use Rattle.walk.proofs.listing_part.Tie as tie

@@ -1,11 +1,10 @@
 -- The proof that `fill::fill` keeps its contract: it ends by the number of nodes still allowed.
 use borrow.Author.Needs.{needs}
-use mathlib.Core.Path.{_≡_, ap}
-use Prim.Native.Nat.{ℕ, _+_, _*_, _-_, _≤_, _<_}
+use Prim.Native.Nat.{ℕ, _-_, _≤_, _<_}
 use native.Mathlib.Omega.{arith}
 use Rattle.walk.specs.Walk.{begin}
 use Rattle.walk.proofs.Walks.{children}
-use Rattle.walk.specs.Passes.{Filled}
+use Rattle.walk.specs.Passes.{Roomy, Filled}
 use Rattle.walk.proofs.Passing.{filling, filling-falls, filling-room, filled-length, filled-none, filled-more}
 use borrow.Fn.Kinds.{In}
 use borrow.Fn.PlainCycle.{Measures, is, falls, and}
@@ -28,7 +27,7 @@ abbrev fill-below : ℕ → In 2 fill-kinds.ps
 fill-below t = and 2 fill-kinds.ps (falls 2 fill-kinds.ps _<_ μ-fill t) fill.Pre
 
 abbrev fill-Inv-loop : fill-lts.InvT-loop
-fill-Inv-loop block h list₀ node k v₀ i₀ list v i = (i ≤ k) × ((v₀ .at + 255 * v₀ .allowed ≤ 16777216) × Filled list₀ v₀ (children block h (v₀ .allowed) node i (begin (v₀ .allowed))) list v)
+fill-Inv-loop block h list₀ node k v₀ i₀ list v i = (i ≤ k) × (Roomy (v₀ .at) (v₀ .allowed) × Filled list₀ v₀ (children block h (v₀ .allowed) node i (begin (v₀ .allowed))) list v)
 
 abbrev fill-μ-loop : fill-lts.MeasureT-loop
 fill-μ-loop block h list₀ node k v₀ i₀ list v i = k - i

@@ -1,6 +1,5 @@
 -- The proof that `fill::fill_leaf` keeps its contract.
 use borrow.Author.Needs.{needs}
-use native.Mathlib.Omega.{arith}
 use Rattle.walk.proofs.Passing.{leaf-filled}
 use Rattle.walk.proofs.fill.fill_leaf.Statement.{statement}
 use Rattle.walk.proofs.fill.fill_leaf.Tie as tie

@@ -1,11 +1,10 @@
 -- The proof that `meter::measure` keeps its contract: it ends by the number of nodes still allowed.
 use borrow.Author.Needs.{needs}
-use mathlib.Core.Path.{_≡_, ap}
-use Prim.Native.Nat.{ℕ, _+_, _*_, _-_, _≤_, _<_}
+use Prim.Native.Nat.{ℕ, _-_, _≤_, _<_}
 use native.Mathlib.Omega.{arith}
 use Rattle.walk.specs.Walk.{begin}
 use Rattle.walk.proofs.Walks.{children}
-use Rattle.walk.specs.Passes.{Measured}
+use Rattle.walk.specs.Passes.{Roomy, Measured}
 use Rattle.walk.proofs.Passing.{measuring, meter-falls, meter-room, children-none, children-more}
 use borrow.Fn.Kinds.{In}
 use borrow.Fn.PlainCycle.{Measures, is, falls, and}
@@ -29,7 +28,7 @@ abbrev measure-below : ℕ → In 1 measure-kinds.ps
 measure-below t = and 1 measure-kinds.ps (falls 1 measure-kinds.ps _<_ μ-measure t) measure.Pre
 
 abbrev measure-Inv-loop : measure-lts.InvT-loop
-measure-Inv-loop block h low high node k v₀ i₀ v i = (i ≤ k) × ((v₀ .count + 255 * v₀ .allowed ≤ 16777216) × Measured low high v₀ (children block h (v₀ .allowed) node i (begin (v₀ .allowed))) v)
+measure-Inv-loop block h low high node k v₀ i₀ v i = (i ≤ k) × (Roomy (v₀ .count) (v₀ .allowed) × Measured low high v₀ (children block h (v₀ .allowed) node i (begin (v₀ .allowed))) v)
 
 abbrev measure-μ-loop : measure-lts.MeasureT-loop
 measure-μ-loop block h low high node k v₀ i₀ v i = k - i

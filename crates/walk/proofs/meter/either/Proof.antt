@@ -1,5 +1,4 @@
 -- The proof that `meter::either` keeps its contract.
-use borrow.Author.Needs.{needs}
 use Rattle.tables.proofs.Picks.{picks}
 use Rattle.walk.proofs.meter.either.Statement.{statement}
 use Rattle.walk.proofs.meter.either.Tie as tie

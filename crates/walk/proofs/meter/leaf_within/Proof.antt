@@ -2,7 +2,6 @@
 use borrow.Author.Needs.{needs}
 use mathlib.Core.Path.{_≡_}
 use Prim.Native.Nat.{_≤_, _-_}
-use native.Mathlib.Omega.{arith}
 use Rattle.tables.specs.Keys.{keysOf}
 use Rattle.walk.specs.Calls.{anyWithin}
 use Rattle.walk.proofs.Passing.{within-none, within-more, within-all}

@@ -1,6 +1,5 @@
 -- The proof that `meter::measure_all` keeps its contract.
 use borrow.Author.Needs.{needs}
-use native.Mathlib.Omega.{arith}
 use Rattle.walk.proofs.Passing.{measured-all}
 use Rattle.walk.proofs.meter.measure_all.Statement.{statement}
 use Rattle.walk.proofs.meter.measure_all.Tie as tie

@@ -1,6 +1,5 @@
 -- The proof that `meter::measure_leaf` keeps its contract.
 use borrow.Author.Needs.{needs}
-use native.Mathlib.Omega.{arith}
 use Rattle.walk.proofs.Passing.{leaf-measured}
 use Rattle.walk.proofs.meter.measure_leaf.Statement.{statement}
 use Rattle.walk.proofs.meter.measure_leaf.Tie as tie
