@@ -1,0 +1,1 @@
+// Lines written into a lent buffer.
