@@ -1,3 +1,4 @@
--- The laws of the bench's lines: runs of bytes, reading return by return.
+-- The laws of the bench's lines: runs of bytes, reading and writing return by return.
 pub mod Runs
 pub mod Turns
+pub mod Buffers

@@ -2,3 +2,4 @@
 pub mod Text
 pub mod Reading
 pub mod Position
+pub mod Writing

@@ -1,11 +1,11 @@
--- Lines as lists of bytes: texts, digits and words, the value of digits.
-use Prim.Native.Nat.{ℕ, _+_, _-_, _*_}
+-- Lines as lists of bytes: texts, digits and words, the value of digits, and a number's digits.
+use Prim.Native.Nat.{ℕ, zero, suc, _+_, _-_, _*_, _/_, _%_}
 use Prim.Native.String.{String}
 use Prim.Native.String as S
 use Prim.Native.Char.{code}
 use mathlib.Core.Bool.{Bool, true, false}
-use mathlib.Core.List.{List, [], _∷_}
-use lib.Dec.{eqb}
+use mathlib.Core.List.{List, [], _∷_, _++_}
+use lib.Dec.{ltb, eqb}
 use Rattle.tables.specs.Choice.{pick, within}
 
 -- the bytes of a text
@@ -43,3 +43,11 @@ valueFrom v (d ∷ ds) = valueFrom (10 * v + (d - 48)) ds
 
 abbrev pub valueOf : List ℕ → ℕ
 valueOf ds = valueFrom 0 ds
+
+-- a number in decimal, with no leading zero; 0 is "0". A number has no more digits than its value and one more says.
+unfoldable pub digitsOf : ℕ → ℕ → List ℕ
+digitsOf zero n = (48 + n) ∷ []
+digitsOf (suc most) n = pick (ltb n 10) ((48 + n) ∷ []) (digitsOf most (n / 10) ++ ((48 + n % 10) ∷ []))
+
+abbrev pub decimal : ℕ → List ℕ
+decimal n = digitsOf n n
