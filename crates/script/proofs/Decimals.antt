@@ -1,14 +1,13 @@
 -- A number in decimal: digits that read as the number, and no more of them than the number needs.
 use Prim.Native.Nat.{ℕ, zero, suc, _+_, _-_, _*_, _/_, _%_, _^_, _≤_, _<_}
-use mathlib.Core.Path.{_≡_, refl, sym, ap, _∙_}
+use mathlib.Core.Path.{_≡_, refl, _∙_}
 use mathlib.Core.Bool.{Bool, true, false}
 use mathlib.Core.List.{List, [], _∷_, _++_}
 use native.Mathlib.Omega.{arith}
-use native.Mathlib.Nat.{mod-lt, le-trans}
-use lib.Dec.{ltb, lit<}
+use lib.Dec.{ltb}
 use lib.ListN.{length, length-append}
 use borrow.Author.Tests.{le-leb, ltb-true, ltb-false}
-use Rattle.tables.specs.Choice.{pick, both}
+use Rattle.tables.specs.Choice.{both}
 use Rattle.script.specs.Text.{isDigit, decimal, valueFrom, valueOf}
 use Rattle.script.specs.Reading.{most}
 use Rattle.script.specs.Form.{All, none, also, Numeral}

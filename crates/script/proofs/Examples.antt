@@ -1,8 +1,7 @@
 -- Computed: document 01's example of a script and of what is printed, numbers at the limit, and lines that are not in their form.
-use Prim.Native.Nat.{ℕ, _+_}
 use mathlib.Core.Path.{_≡_, refl}
 use mathlib.Core.List.{List, [], _∷_, _++_}
-use lib.ListN.{replicate, drop}
+use lib.ListN.{replicate}
 use Rattle.tables.specs.Choice.{pick, both}
 use Rattle.script.specs.Text.{bytes, front, behind, valueFrom, digitsOf, decimal}
 use Rattle.script.specs.Reading.{expect, literal, ended, numberIn, opOf, opIn, field, opBehind, lineOf}

@@ -1,5 +1,5 @@
 -- Reading takes what has the form of a line, and nothing else: the grammar and the reading agree on every list of bytes.
-use Prim.Native.Nat.{ℕ, zero, suc, _+_, _-_, _*_, _≤_, _<_}
+use Prim.Native.Nat.{ℕ, _≤_}
 use mathlib.Core.Path.{_≡_, refl, sym, ap, subst, _∙_}
 use mathlib.Core.Bool.{Bool, true, false}
 use mathlib.Core.List.{List, [], _∷_, _++_, append-nil, append-assoc}
@@ -11,7 +11,7 @@ use borrow.Author.Tests.{lt-ltb, le-ltb, le-leb, leb-true, ltb-true, ltb-false, 
 use Rattle.tables.specs.Choice.{pick, both}
 use Rattle.tables.proofs.Picks.{both-1, both-2}
 use Rattle.script.specs.Text.{bytes, isDigit, inWord, front, behind, valueOf}
-use Rattle.script.specs.Reading.{Left, left, bad, expect, literal, ended, Found, found, missing, most, numberIn, number, opOf, opIn, op, field, opBehind, atEnd}
+use Rattle.script.specs.Reading.{Left, left, bad, expect, literal, ended, found, missing, most, numberIn, number, opOf, opIn, op, field, opBehind, atEnd}
 use Rattle.script.specs.Reading.{makingFrom, makingWithK, startOf, stepsOf, listOf, firstOf, longest, lineOf}
 use Rattle.script.specs.Form.{All, none, also, Numeral, Word, InForm, making, making-without-k, start, steps, list}
 use Rattle.script.specs.declared.lines.Line.{Line}

@@ -5,15 +5,14 @@ use mathlib.Core.Bool.{Bool, true, false}
 use mathlib.Core.List.{List, [], _∷_, _++_, append-assoc}
 use native.Mathlib.Omega.{arith}
 use native.Mathlib.Numerals.{add-one}
-use native.Mathlib.Nat.{le-trans}
 use lib.Dec.{ltb, lit<, lit≤}
 use lib.ListN.{length, take, drop, set, length-append, length-set}
 use lib.Seq.{sets, sets-eq, take-at, drop-at, length-take-le}
 use borrow.Author.Tests.{lt-ltb, ltb-true}
 use Rattle.tables.specs.Choice.{pick}
-use Rattle.script.specs.Text.{bytes, inWord, decimal}
+use Rattle.script.specs.Text.{bytes, decimal}
 use Rattle.script.specs.Reading.{most, opOf, expect, ended, longest, lineOf}
-use Rattle.script.specs.Form.{Word, InForm, none, also, making, making-without-k, start, steps, list}
+use Rattle.script.specs.Form.{Word, none, also, making, making-without-k, start, steps, list}
 use Rattle.script.specs.Writing.{named, opWord, opField, answerWord, answerField, answerLine, refusedLine, countLine, keyLine}
 use Rattle.script.specs.Writing.{plainMakingText, makingText, startText, stepsText, listText, Out, out, written}
 use Rattle.script.specs.declared.lines.Making.{Making}
