@@ -196,3 +196,7 @@ steps-back s p t =
 
 pub list-back : lineOf listText ≡ Line.List
 list-back = in-form-read listText Line.List (lit≤ tt) (list refl)
+
+-- so a line that was written where there was room for it is read from the buffer as what it asks for
+pub written-back : (b e t : List ℕ) (at r : ℕ) (x : Line) → out r e ≡ written b at t → at + length t ≤ length b → lineOf t ≡ x → lineOf (take (r - at) (drop at e)) ≡ x
+written-back b e t at r x w room q = rw (written-there b e t at r w room) q

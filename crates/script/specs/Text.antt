@@ -8,7 +8,7 @@ use mathlib.Core.List.{List, [], _∷_, _++_}
 use lib.Dec.{eqb}
 use Rattle.tables.specs.Choice.{pick, within}
 
--- the bytes of a text
+-- the bytes of a text, whose characters are all ASCII
 abbrev pub bytes : String → List ℕ
 bytes S.[] = []
 bytes (S._∷_ c s) = code c ∷ bytes s
