@@ -1,0 +1,4 @@
+-- The laws of the calls: a row of process records, loans of a row, and the calls' theorems.
+pub mod Rows
+pub mod Shared
+pub mod Lent
