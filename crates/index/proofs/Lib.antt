@@ -2,3 +2,5 @@
 pub mod Rows
 pub mod Shared
 pub mod Lent
+pub mod Called
+pub mod OneRecord
