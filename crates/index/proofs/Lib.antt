@@ -4,3 +4,4 @@ pub mod Shared
 pub mod Lent
 pub mod Called
 pub mod OneRecord
+pub mod ByValue

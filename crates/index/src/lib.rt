@@ -6,6 +6,9 @@ ghost use lib.ListN.{getD, set, length, replicate};
 ghost use Rattle.tables.specs.Fresh.{overFront};
 ghost use Rattle.process.specs.Process.{idle};
 ghost use Rattle.index.specs.Calls.{makeOut, makeCall, startOut, startCall, stepOut, stepCall, makingOut, makingOf, countedOf};
+
+pub mod held;
+
 use points::start::StartAnswer;
 use process::Process;
 use process::StepAnswer;
