@@ -5,7 +5,7 @@ use mathlib.Core.Bool.{Bool, true, false}
 use mathlib.Core.List.{List, [], _∷_, List·Memᴰ, List·Memᴰ·head, List·Memᴰ·tail}
 use native.Mathlib.Omega.{arith}
 use borrow.Author.Tests.{le-leb}
-use lib.ListN.{length}
+use lib.ListN.{length, take}
 use Rattle.tables.specs.Choice.{pick, both, within, Verdict, refused, accepted, verdict, told, NoneHolds, First}
 use Rattle.tables.specs.Refusal.{numberOf, refusal}
 use Rattle.tables.specs.Fresh.{overFront}
@@ -13,11 +13,13 @@ use Rattle.tables.specs.declared.numbers.Refusal.{Refusal}
 use Rattle.tables.proofs.OneToOne.{refusal-number, none-accepts, tells, accepted-none, first-answers, answers-first}
 use Rattle.tables.proofs.Picks.{within-low, within-high}
 use Rattle.walk.specs.Answer.{answered, refusedBy, listedSays, clearedSays, cleared}
-use Rattle.walk.specs.Calls.{keysMet, listReasons, ListOut, listOut, listOf, either, anyWithin, rangeReasons, rangeOf}
+use Rattle.walk.specs.Calls.{keysMet, listReasons, ListOut, listOut, listOf, partOf, either, anyWithin, rangeReasons, rangeOf}
+use Rattle.walk.specs.Passes.{filledOf}
 use Rattle.walk.specs.declared.Listed.{Listed}
 use Rattle.walk.specs.declared.Listed.the-variants.{Count, Refused as ListRefused}
 use Rattle.walk.specs.declared.Cleared.{Cleared}
 use Rattle.walk.specs.declared.Cleared.the-variants.{No, Yes, Refused as RangeRefused}
+use Rattle.walk.proofs.Calling.{part-is}
 
 -- two answers that say the same are the same
 said-answer : (m n : ℕ) → answered m ≡ answered n → m ≡ n
@@ -95,6 +97,10 @@ module _ (b list : List ℕ) where
           let q = sym e ∙ ap (λ (o : ListOut). o .listed) (tells refusing full (listReasons b (length list)) ∙ ap (told refusing full) f) in
           let z : _≡_ {A = ℕ} 0 1 = cc in
           absurd (omega arith)
+
+  -- the twin "does the same": what it hands back is the front of what a listing leaves, as many words as that has filled
+  pub twin-front : partOf b list ≡ take (filledOf (listOf b list .listed)) (listOf b list .list)
+  twin-front = sym (part-is b list (listOf b list .list) (listOf b list .listed) (filledOf (listOf b list .listed)) refl refl)
 
 -- range: the same
 module _ (b : List ℕ) (low high : ℕ) where
