@@ -8,7 +8,7 @@ use lib.ListN.{set}
 use borrow.Author.Tests.{lt-ltb, le-ltb, eq-eqb, ne-eqb}
 use Rattle.tables.specs.Choice.{pick, both}
 use Rattle.tables.specs.Refusal.{refusal}
-use Rattle.tables.specs.Layout.{depthOf, nodeAt, stackAt, stackWord, childWord, pendingWord, childPlace, pendingPlace}
+use Rattle.tables.specs.Layout.{depthOf, nodeAt, stackAt, childWord, pendingWord, childPlace, pendingPlace}
 use Rattle.tables.specs.Pending.{pendingOf, pendingGood}
 use Rattle.tables.specs.Node.{belowOf, isNode}
 use Rattle.tables.specs.declared.header.Header.{Header}
@@ -21,9 +21,9 @@ use Rattle.process.specs.Answer.{goingOn, refusedAs}
 use Rattle.process.specs.declared.Process.{Process}
 use Rattle.process.specs.declared.Stepped.{Stepped}
 use Rattle.damage.specs.Fields.{either}
-use Rattle.points.specs.Touch.{Out, out, rowDone}
+use Rattle.points.specs.Touch.{out, rowDone}
 use Rattle.points.specs.Help.{helpedP, helpedL, helpedThird, helpedExpected, topOf, helpEnded, helping, topGood}
-use Rattle.points.specs.Rows.{nonEmpty, kinAt, lookedFor, lookRow, hangRow, unflagRow, popGood, underTop, notesKin, otherWith, noted, notedGood, row9, row10, row11}
+use Rattle.points.specs.Rows.{nonEmpty, lookedFor, lookRow, hangRow, unflagRow, popGood, underTop, notesKin, otherWith, noted, row9, row10, row11}
 use Rattle.points.specs.Parts.{pushed, markedOrPushed, noteDone}
 use Rattle.points.proofs.Rowed.{row-done, row-not, row-rest, below-is}
 

@@ -5,3 +5,8 @@ pub mod Searches
 pub mod Flags
 pub mod Finishes
 pub mod Steps
+pub mod Accepted
+pub mod Counted
+pub mod Refusals
+pub mod Leaves
+pub mod Touches

@@ -1,10 +1,11 @@
--- A row that is sound is done, one that is not is refused; what a child read is.
-use Prim.Native.Nat.{ℕ, _≤_, _<_}
-use mathlib.Core.Path.{_≡_, refl, sym, ap, _∙_}
+-- A row that is sound is done, one that is not is refused; the row of a point; what a child read is.
+use Prim.Native.Nat.{ℕ}
+use mathlib.Core.Path.{_≡_, refl, sym, _∙_}
 use mathlib.Core.Bool.{Bool, true, false}
 use mathlib.Core.List.{List}
 use native.Mathlib.Omega.{arith}
-use lib.Dec.{ltb}
+use lib.Dec.{ltb, eqb}
+use borrow.Author.Tests.{eqb-true}
 use Rattle.tables.specs.Choice.{pick, both}
 use Rattle.tables.specs.Refusal.{refusal}
 use Rattle.tables.specs.Node.{kinOf, belowOf, nodeGood}
@@ -15,8 +16,8 @@ use Rattle.tables.specs.declared.node.Child.the-variants.{Node, Damaged}
 use Rattle.process.specs.Answer.{refusedAs}
 use Rattle.process.specs.declared.Process.{Process}
 use Rattle.process.specs.declared.Stepped.{Stepped}
-use Rattle.points.specs.Touch.{Row, Out, out, rowDone}
-use Rattle.points.specs.Rows.{kinAt}
+use Rattle.points.specs.Touch.{Row, out, rowDone}
+use Rattle.points.specs.Rows.{kinAt, row1, row2, row3, row4, row5, row6, row7, row8, row9, row10, row11, row12, row13, row14, noRow, rowOf}
 
 module _ (b : List ℕ) (q : Process) (row : Row) (s : Stepped) where
   pub row-done : (e : List ℕ) → row .sound ≡ true → s ≡ row .stepped → e ≡ row .block → out s e ≡ rowDone b q row
@@ -33,6 +34,35 @@ pub row-rest : (b : List ℕ) (q : Process) (row : Row) (s : Stepped) (t u : Boo
 unfolding pick both
 row-rest b q row s t true e f g i = row-done b q row s b (cc) i (sym g)
 row-rest b q row s t false e f g i = row-not b q row s (e ∙ (let z : both t false ≡ false = cc in z)) i
+
+-- a fact of each row, at its point, is a fact of the row of the point
+module _ (P : Row → Type 0) where
+  at-row : (x n : ℕ) (r s : Row) → (x ≡ n → P r) → P s → P (pick (eqb x n) r s)
+  unfolding pick
+  at-row x n r s f g = go (eqb x n) (eqb-true x n)
+    where
+      go : (t : Bool) → (t ≡ true → x ≡ n) → P (pick t r s)
+      go true e = f (e refl)
+      go false e = g
+
+  module _ (b : List ℕ) (h : Header) (n : ℕ) (q : Process) where
+    pub each-row : (q .point ≡ 1 → P (row1 b h q)) → (q .point ≡ 2 → P (row2 b h q)) → (q .point ≡ 3 → P (row3 b h q)) → (q .point ≡ 4 → P (row4 b h n q)) →
+        (q .point ≡ 5 → P (row5 b h n q)) → (q .point ≡ 6 → P (row6 b h q)) → (q .point ≡ 7 → P (row7 b h q)) → (q .point ≡ 8 → P (row8 b h n q)) →
+        (q .point ≡ 9 → P (row9 b h n q)) → (q .point ≡ 10 → P (row10 b h n q)) → (q .point ≡ 11 → P (row11 b h q)) → (q .point ≡ 12 → P (row12 b h q)) →
+        (q .point ≡ 13 → P (row13 b h q)) → (q .point ≡ 14 → P (row14 b h n q)) → P (noRow b q) → P (rowOf b h n q)
+    unfolding rowOf
+    each-row r1 r2 r3 r4 r5 r6 r7 r8 r9 r10 r11 r12 r13 r14 none =
+        at-row (q .point) 1 _ _ r1
+        (at-row (q .point) 2 _ _ r2
+        (at-row (q .point) 3 _ _ r3
+        (at-row (q .point) 4 _ _ r4
+        (at-row (q .point) 5 _ _ r5
+        (at-row (q .point) 6 _ _ r6
+        (at-row (q .point) 7 _ _ r7
+        (at-row (q .point) 8 _ _ r8
+        (at-row (q .point) 9 _ _ r9
+        (at-row (q .point) 10 _ _ r10
+        (at-row (q .point) 11 _ _ r11 (at-row (q .point) 12 _ _ r12 (at-row (q .point) 13 _ _ r13 (at-row (q .point) 14 _ _ r14 none)))))))))))))
 
 -- a good node is what its tag says
 kin-node : (t : Bool) (k kin : Kin) → pick t (Node k) Damaged ≡ Node kin → kin ≡ k

@@ -7,9 +7,9 @@ use native.Mathlib.Omega.{arith}
 use native.Mathlib.Nat.{one-mul, mod-eq-of-lt}
 use lib.Bits.{bitOr}
 use lib.Count.{ones}
-use lib.Dec.{ltb, eqb}
+use lib.Dec.{eqb}
 use lib.Pow.{pow-lt}
-use borrow.Author.Tests.{lt-ltb, le-ltb, eq-eqb, ne-eqb}
+use borrow.Author.Tests.{lt-ltb, le-ltb, ne-eqb}
 use Rattle.tables.specs.Choice.{pick, both}
 use Rattle.tables.specs.Refusal.{refusal}
 use Rattle.tables.specs.Layout.{tagWord, pendingWord}
@@ -29,7 +29,7 @@ use Rattle.process.specs.declared.Answer.the-variants.{No, Yes}
 use Rattle.process.specs.declared.Stepped.{Stepped}
 use Rattle.points.specs.Touch.{out, rowDone}
 use Rattle.points.specs.Help.{helping}
-use Rattle.points.specs.Rows.{nonEmpty, findAt, insertAt, deleteAt, atLeaf, atChild, leafGood2, kinAt, maskWith, pointAfter3, scanned3, row1, row2, row3}
+use Rattle.points.specs.Rows.{nonEmpty, findAt, insertAt, deleteAt, atLeaf, atChild, leafGood2, maskWith, pointAfter3, scanned3, row1, row2, row3}
 use Rattle.points.proofs.Rowed.{row-done, row-not, row-rest, below-is}
 
 module _ (b : List ℕ) (h : Header) (q : Process) (w : ℕ) (v : Pending) (t : Bool) (s : Stepped) (e1 : w ≡ pendingWord b h (q .p)) (e2 : v ≡ pendingOf w)

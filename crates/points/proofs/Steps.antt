@@ -1,21 +1,20 @@
 -- A step and a start, return by return: the row of each point, what a sound record leaves to arithmetic, and the refusals.
-use Prim.Native.Nat.{ℕ, _+_, _*_, _≤_, _<_}
+use Prim.Native.Nat.{ℕ, _≤_, _<_}
 use mathlib.Core.Path.{_≡_, refl, sym, ap, _∙_}
 use mathlib.Core.Bool.{Bool, true, false, not}
-use mathlib.Core.List.{List, _++_}
+use mathlib.Core.List.{List}
 use native.Mathlib.Omega.{arith}
-use lib.Dec.{ltb, eqb, leb}
 use borrow.Author.Tests.{leb-true, lt-ltb, le-ltb, eq-eqb, ne-eqb}
-use Rattle.tables.specs.Choice.{pick, both, within, decide}
+use Rattle.tables.specs.Choice.{pick, both, within}
 use Rattle.tables.specs.Numbers.{infinity}
 use Rattle.tables.specs.Refusal.{refusal}
-use Rattle.tables.specs.Header.{headerOf, headerGood, headerRead, blockReasons}
+use Rattle.tables.specs.Header.{headerOf, headerGood, headerRead}
 use Rattle.tables.specs.Pending.{wordOf, pendingGood}
 use Rattle.tables.specs.declared.header.Header.{Header}
 use Rattle.tables.specs.declared.header.HeaderRead.{HeaderRead}
 use Rattle.tables.specs.declared.header.HeaderRead.the-variants.{Good, Refused}
 use Rattle.tables.specs.declared.numbers.Refusal.{Refusal}
-use Rattle.tables.specs.declared.numbers.Refusal.the-variants.{TooShort, Damaged, NoSuchProcess, UnknownOperation, InfinityGiven, Busy, Idle}
+use Rattle.tables.specs.declared.numbers.Refusal.the-variants.{TooShort, NoSuchProcess, UnknownOperation, InfinityGiven, Busy, Idle}
 use Rattle.tables.specs.declared.pending.Pending.{Pending}
 use Rattle.tables.specs.declared.pending.Pending.the-variants.{Clean, Replace, Prune, Mark}
 use Rattle.tables.proofs.Picks.{both-1, both-2, within-high}
@@ -26,9 +25,9 @@ use Rattle.process.specs.declared.Process.{Process}
 use Rattle.process.specs.declared.Stepped.{Stepped}
 use Rattle.damage.specs.Fields.{processGood, numbersGood, recordsGood}
 use Rattle.damage.specs.Helped.{helpedGood}
-use Rattle.points.specs.Touch.{Row, Out, out, rowDone}
+use Rattle.points.specs.Touch.{Out, out, rowDone}
 use Rattle.points.specs.Rows.{row1, row2, row3, row4, row5, row6, row7, row8, row9, row10, row11, row12, row13, row14, noRow, rowOf}
-use Rattle.points.specs.Step.{rowReasons, stepRest, stepRefused, stepDone, stepOf, soundStep, started, startRest, startRefused, startOf}
+use Rattle.points.specs.Step.{stepRefused, stepDone, stepOf, soundStep, started, startOf}
 use Rattle.points.specs.Parts.{Ready, stepGood, startKnown, startGood}
 use Rattle.points.specs.declared.start.StartAnswer.the-variants as answers
 use Rattle.points.specs.declared.start.Started.{Started}

@@ -15,7 +15,7 @@ use Rattle.process.specs.Process.{startedAs, withDepth, withOwn, toSix, toNine,
 use Rattle.process.specs.Answer.{answer, goingOn, endingOf, refusedAs}
 use Rattle.process.specs.declared.Process.{Process}
 use Rattle.process.specs.declared.Stepped.{Stepped}
-use Rattle.draws.specs.Draw.{newRecord, DrawOut, replaceOf, pruneOf}
+use Rattle.draws.specs.Draw.{newRecord, replaceOf, pruneOf}
 use Rattle.points.specs.Touch.{Out, out}
 use Rattle.points.specs.Help.{topOf, helping, helpGood}
 use Rattle.points.specs.Rows.{jobOf, leafGood4, notedGood, noted, otherWith}

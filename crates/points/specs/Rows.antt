@@ -4,7 +4,7 @@ use mathlib.Core.Bool.{Bool, true, false, not}
 use mathlib.Core.List.{List}
 use lib.Bits.{bitOr}
 use lib.Count.{ones}
-use lib.Dec.{ltb, leb, eqb}
+use lib.Dec.{ltb, eqb}
 use lib.ListN.{set}
 use Rattle.tables.specs.Choice.{pick, both}
 use Rattle.tables.specs.Refusal.{refusal}
@@ -15,7 +15,7 @@ use Rattle.tables.specs.Keys.{keysOf, rises, holds, routeOf}
 use Rattle.tables.specs.declared.header.Header.{Header}
 use Rattle.tables.specs.declared.node.Kin.{Kin}
 use Rattle.tables.specs.declared.node.Kin.the-variants.{Leaf, Internal}
-use Rattle.process.specs.Process.{restartedOf, withPoint, withPSeen, withL, withIndex, withMask, withOther, withDepth, withOwn, descendedOf, toThree, toSix, toNine, toTen, toEleven, toTwelve, isCleanOf}
+use Rattle.process.specs.Process.{withPoint, withPSeen, withL, withIndex, withMask, withOther, withDepth, withOwn, descendedOf, toThree, toSix, toNine, toEleven, toTwelve, isCleanOf}
 use Rattle.process.specs.Answer.{answer, goingOn, endingOf, refusedAs}
 use Rattle.process.specs.declared.Process.{Process}
 use Rattle.process.specs.declared.Stepped.{Stepped}

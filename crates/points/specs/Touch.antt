@@ -1,6 +1,6 @@
 -- "Each accepted step does the one row of its point .. and touches one shared word": the touch, the row around it, and what a step hands back.
 use Prim.Native.Nat.{ℕ}
-use mathlib.Core.Bool.{Bool, true, false}
+use mathlib.Core.Bool.{Bool, false}
 use mathlib.Core.List.{List}
 use lib.Dec.{eqb}
 use lib.ListN.{set}

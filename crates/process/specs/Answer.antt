@@ -1,6 +1,6 @@
 -- What a step answers: document 01's numbers, and the process record that goes with each.
 use Prim.Native.Nat.{ℕ, _+_}
-use mathlib.Core.List.{List, [], _∷_}
+use mathlib.Core.List.{[], _∷_}
 use lib.Dec.{ltb}
 use lib.ListN.{getD}
 use Rattle.tables.specs.Choice.{pick}
@@ -9,7 +9,6 @@ use Rattle.process.specs.Process.{idle, withSteps}
 use Rattle.process.specs.declared.Process.{Process}
 use Rattle.process.specs.declared.Answer.{Answer}
 use Rattle.process.specs.declared.Answer.the-variants.{No, Yes, Full}
-use Rattle.process.specs.declared.StepAnswer.{StepAnswer}
 use Rattle.process.specs.declared.StepAnswer.the-variants.{GoesOn, Ended, Refused}
 use Rattle.process.specs.declared.Stepped.{Stepped}
 

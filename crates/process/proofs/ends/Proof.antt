@@ -1,3 +1,4 @@
+-- The proof that `ends` keeps its contract.
 use borrow.Author.Needs.{needs}
 use Rattle.process.proofs.ends.Statement.{statement}
 use Rattle.process.proofs.ends.Tie as tie

@@ -1,3 +1,4 @@
+-- The proof that `goes_on` keeps its contract.
 use borrow.Author.Needs.{needs}
 use Rattle.process.proofs.goes_on.Statement.{statement}
 use Rattle.process.proofs.goes_on.Tie as tie

@@ -1,3 +1,4 @@
+-- The proof that `steps_up` keeps its contract.
 use borrow.Author.Needs.{needs}
 use Rattle.tables.proofs.Picks.{picks}
 use Rattle.process.proofs.steps_up.Statement.{statement}

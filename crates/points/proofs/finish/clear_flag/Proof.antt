@@ -1,3 +1,4 @@
+-- The proof that `finish::clear_flag` keeps its contract.
 use borrow.Author.Needs.{needs}
 use Rattle.points.proofs.finish.clear_flag.Statement.{statement}
 use Rattle.points.proofs.finish.clear_flag.Tie as tie

@@ -1,3 +1,4 @@
+-- The proof that `finish::ended` keeps its contract.
 use borrow.Author.Needs.{needs}
 use Rattle.points.proofs.Helps.{ended-same}
 use mathlib.Core.Path.{refl}

@@ -1,4 +1,4 @@
-use borrow.Author.Needs.{needs}
+-- The proof that `finish::first_noted` keeps its contract.
 use Rattle.points.proofs.Finishes.{notings}
 use Rattle.points.proofs.finish.first_noted.Statement.{statement}
 use Rattle.points.proofs.finish.first_noted.Tie as tie

@@ -1,3 +1,4 @@
+-- The proof that `finish::flag_sound` keeps its contract.
 use borrow.Author.Needs.{needs}
 use Rattle.points.proofs.finish.flag_sound.Statement.{statement}
 use Rattle.points.proofs.finish.flag_sound.Tie as tie

@@ -1,3 +1,4 @@
+-- The proof that `finish::hang` keeps its contract.
 use borrow.Author.Needs.{needs}
 use Rattle.points.proofs.Finishes.{hangs}
 use Rattle.points.proofs.finish.hang.Statement.{statement}

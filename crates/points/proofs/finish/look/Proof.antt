@@ -1,3 +1,4 @@
+-- The proof that `finish::look` keeps its contract.
 use borrow.Author.Needs.{needs}
 use Rattle.points.proofs.Finishes.{looks}
 use Rattle.points.proofs.finish.look.Statement.{statement}

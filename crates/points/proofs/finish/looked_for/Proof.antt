@@ -1,3 +1,4 @@
+-- The proof that `finish::looked_for` keeps its contract.
 use borrow.Author.Needs.{needs}
 use Rattle.points.proofs.Finishes.{looks}
 use Rattle.points.proofs.finish.looked_for.Statement.{statement}

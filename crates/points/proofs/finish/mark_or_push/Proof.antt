@@ -1,3 +1,4 @@
+-- The proof that `finish::mark_or_push` keeps its contract.
 use borrow.Author.Needs.{needs}
 use Rattle.points.proofs.Finishes.{marks}
 use Rattle.points.proofs.finish.mark_or_push.Statement.{statement}

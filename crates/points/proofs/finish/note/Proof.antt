@@ -1,3 +1,4 @@
+-- The proof that `finish::note` keeps its contract.
 use borrow.Author.Needs.{needs}
 use Rattle.points.proofs.Finishes.{notings}
 use Rattle.points.proofs.finish.note.Statement.{statement}

@@ -1,4 +1,4 @@
-use borrow.Author.Needs.{needs}
+-- The proof that `finish::other_with` keeps its contract.
 use Rattle.tables.proofs.Picks.{picks}
 use Rattle.points.proofs.finish.other_with.Statement.{statement}
 use Rattle.points.proofs.finish.other_with.Tie as tie

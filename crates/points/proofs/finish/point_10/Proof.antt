@@ -1,3 +1,4 @@
+-- The proof that `finish::point_10` keeps its contract.
 use borrow.Author.Needs.{needs}
 use Rattle.points.proofs.Finishes.{ten-good, ten-bad}
 use Rattle.points.proofs.finish.point_10.Statement.{statement}

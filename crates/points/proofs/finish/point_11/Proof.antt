@@ -1,3 +1,4 @@
+-- The proof that `finish::point_11` keeps its contract.
 use borrow.Author.Needs.{needs}
 use Rattle.points.proofs.Finishes.{elevens}
 use Rattle.points.proofs.finish.point_11.Statement.{statement}

@@ -1,3 +1,4 @@
+-- The proof that `finish::point_12` keeps its contract.
 use borrow.Author.Needs.{needs}
 use Rattle.points.specs.Rows.{row12}
 use Rattle.points.proofs.finish.point_12.Statement.{statement}

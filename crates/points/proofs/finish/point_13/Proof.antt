@@ -1,3 +1,4 @@
+-- The proof that `finish::point_13` keeps its contract.
 use borrow.Author.Needs.{needs}
 use Rattle.points.specs.Rows.{row13}
 use Rattle.points.proofs.finish.point_13.Statement.{statement}

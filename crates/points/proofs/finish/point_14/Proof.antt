@@ -1,3 +1,4 @@
+-- The proof that `finish::point_14` keeps its contract.
 use borrow.Author.Needs.{needs}
 use Rattle.points.specs.Rows.{row14}
 use Rattle.points.proofs.finish.point_14.Statement.{statement}

@@ -1,3 +1,4 @@
+-- The proof that `finish::point_6` keeps its contract.
 use borrow.Author.Needs.{needs}
 use Rattle.points.specs.Rows.{row6}
 use Rattle.points.proofs.finish.point_6.Statement.{statement}

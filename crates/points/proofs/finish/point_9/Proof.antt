@@ -1,3 +1,4 @@
+-- The proof that `finish::point_9` keeps its contract.
 use borrow.Author.Needs.{needs}
 use Rattle.points.proofs.Finishes.{nine-good, nine-bad}
 use Rattle.points.proofs.finish.point_9.Statement.{statement}

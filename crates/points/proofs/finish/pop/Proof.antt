@@ -1,3 +1,4 @@
+-- The proof that `finish::pop` keeps its contract.
 use borrow.Author.Needs.{needs}
 use Rattle.points.proofs.finish.pop.Statement.{statement}
 use Rattle.points.proofs.finish.pop.Tie as tie

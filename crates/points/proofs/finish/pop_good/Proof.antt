@@ -1,3 +1,4 @@
+-- The proof that `finish::pop_good` keeps its contract.
 use borrow.Author.Needs.{needs}
 use Rattle.points.proofs.finish.pop_good.Statement.{statement}
 use Rattle.points.proofs.finish.pop_good.Tie as tie

@@ -1,5 +1,5 @@
+-- The proof that `finish::popped` keeps its contract.
 use borrow.Author.Needs.{needs}
-use Rattle.points.proofs.Helps.{ended-same}
 use Rattle.points.proofs.finish.popped.Statement.{statement}
 use Rattle.points.proofs.finish.popped.Tie as tie
 

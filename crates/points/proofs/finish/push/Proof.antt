@@ -1,3 +1,4 @@
+-- The proof that `finish::push` keeps its contract.
 use borrow.Author.Needs.{needs}
 use Rattle.points.proofs.Finishes.{pushes}
 use Rattle.points.proofs.finish.push.Statement.{statement}

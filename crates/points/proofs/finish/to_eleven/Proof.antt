@@ -1,3 +1,4 @@
+-- The proof that `finish::to_eleven` keeps its contract.
 use borrow.Author.Needs.{needs}
 use Rattle.points.proofs.Helps.{on-same}
 use Rattle.points.proofs.finish.to_eleven.Statement.{statement}

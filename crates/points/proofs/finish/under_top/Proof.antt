@@ -1,3 +1,4 @@
+-- The proof that `finish::under_top` keeps its contract.
 use borrow.Author.Needs.{needs}
 use Rattle.points.proofs.finish.under_top.Statement.{statement}
 use Rattle.points.proofs.finish.under_top.Tie as tie

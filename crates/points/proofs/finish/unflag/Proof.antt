@@ -1,3 +1,4 @@
+-- The proof that `finish::unflag` keeps its contract.
 use borrow.Author.Needs.{needs}
 use Rattle.points.proofs.Finishes.{unflags}
 use Rattle.points.proofs.finish.unflag.Statement.{statement}

@@ -1,3 +1,4 @@
+-- The proof that `flag::drawn_prune` keeps its contract.
 use borrow.Author.Needs.{needs}
 use Rattle.points.proofs.Flags.{drawing}
 use Rattle.points.proofs.flag.drawn_prune.Statement.{statement}

@@ -1,3 +1,4 @@
+-- The proof that `flag::flag_leaf` keeps its contract.
 use borrow.Author.Needs.{needs}
 use Rattle.points.proofs.Flags.{leafing}
 use Rattle.points.proofs.flag.flag_leaf.Statement.{statement}

@@ -1,3 +1,4 @@
+-- The proof that `flag::flag_p` keeps its contract.
 use borrow.Author.Needs.{needs}
 use Rattle.points.proofs.Flags.{flags}
 use Rattle.points.proofs.flag.flag_p.Statement.{statement}

@@ -1,4 +1,4 @@
-use borrow.Author.Needs.{needs}
+-- The proof that `flag::held_good` keeps its contract.
 use Rattle.points.proofs.Flags.{leaves}
 use Rattle.points.proofs.flag.held_good.Statement.{statement}
 use Rattle.points.proofs.flag.held_good.Tie as tie

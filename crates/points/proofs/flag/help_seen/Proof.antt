@@ -1,3 +1,4 @@
+-- The proof that `flag::help_seen` keeps its contract.
 use borrow.Author.Needs.{needs}
 use Rattle.points.proofs.Flags.{seens}
 use Rattle.points.proofs.flag.help_seen.Statement.{statement}

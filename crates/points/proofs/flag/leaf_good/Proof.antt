@@ -1,3 +1,4 @@
+-- The proof that `flag::leaf_good` keeps its contract.
 use borrow.Author.Needs.{needs}
 use Rattle.points.proofs.Flags.{leaves}
 use Rattle.points.proofs.flag.leaf_good.Statement.{statement}

@@ -1,3 +1,4 @@
+-- The proof that `flag::point_4` keeps its contract.
 use borrow.Author.Needs.{needs}
 use Rattle.points.proofs.Flags.{fours}
 use Rattle.points.proofs.flag.point_4.Statement.{statement}

@@ -1,3 +1,4 @@
+-- The proof that `flag::point_5` keeps its contract.
 use borrow.Author.Needs.{needs}
 use Rattle.points.proofs.Flags.{fives}
 use Rattle.points.proofs.flag.point_5.Statement.{statement}

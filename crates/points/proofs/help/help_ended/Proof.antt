@@ -1,3 +1,4 @@
+-- The proof that `help::help_ended` keeps its contract.
 use borrow.Author.Needs.{needs}
 use Rattle.points.proofs.Helps.{ended}
 use Rattle.points.proofs.help.help_ended.Statement.{statement}

@@ -1,3 +1,4 @@
+-- The proof that `help::help_good` keeps its contract.
 use borrow.Author.Needs.{needs}
 use Rattle.points.proofs.Helps.{helped}
 use Rattle.points.proofs.help.help_good.Statement.{statement}

@@ -1,3 +1,4 @@
+-- The proof that `help::helping` keeps its contract.
 use borrow.Author.Needs.{needs}
 use Rattle.points.proofs.Helps.{helped}
 use Rattle.points.proofs.help.helping.Statement.{statement}

@@ -1,3 +1,4 @@
+-- The proof that `help::seen_good` keeps its contract.
 use borrow.Author.Needs.{needs}
 use Rattle.points.proofs.help.seen_good.Statement.{statement}
 use Rattle.points.proofs.help.seen_good.Tie as tie

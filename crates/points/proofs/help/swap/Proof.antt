@@ -1,3 +1,4 @@
+-- The proof that `help::swap` keeps its contract.
 use borrow.Author.Needs.{needs}
 use Rattle.tables.proofs.Picks.{picks}
 use Rattle.points.proofs.help.swap.Statement.{statement}

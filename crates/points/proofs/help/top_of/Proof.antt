@@ -1,3 +1,4 @@
+-- The proof that `help::top_of` keeps its contract.
 use borrow.Author.Needs.{needs}
 use Rattle.points.proofs.help.top_of.Statement.{statement}
 use Rattle.points.proofs.help.top_of.Tie as tie

@@ -1,3 +1,4 @@
+-- The proof that `search::at_child` keeps its contract.
 use borrow.Author.Needs.{needs}
 use Rattle.points.proofs.Searches.{downs}
 use Rattle.points.proofs.search.at_child.Statement.{statement}

@@ -1,3 +1,4 @@
+-- The proof that `search::delete_at` keeps its contract.
 use borrow.Author.Needs.{needs}
 use Rattle.points.proofs.Searches.{downs}
 use Rattle.points.proofs.search.delete_at.Statement.{statement}

@@ -1,3 +1,4 @@
+-- The proof that `search::find_at` keeps its contract.
 use borrow.Author.Needs.{needs}
 use Rattle.points.proofs.Searches.{downs}
 use Rattle.points.proofs.search.find_at.Statement.{statement}

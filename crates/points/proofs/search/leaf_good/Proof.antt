@@ -1,3 +1,4 @@
+-- The proof that `search::leaf_good` keeps its contract.
 use borrow.Author.Needs.{needs}
 use Rattle.points.proofs.Searches.{downs}
 use Rattle.points.proofs.search.leaf_good.Statement.{statement}

@@ -1,3 +1,4 @@
+-- The proof that `search::mask_with` keeps its contract.
 use borrow.Author.Needs.{needs}
 use Rattle.points.proofs.Searches.{scans}
 use Rattle.points.proofs.search.mask_with.Statement.{statement}

@@ -1,3 +1,4 @@
+-- The proof that `search::non_empty` keeps its contract.
 use borrow.Author.Needs.{needs}
 use Rattle.points.proofs.Searches.{scans}
 use Rattle.points.proofs.search.non_empty.Statement.{statement}

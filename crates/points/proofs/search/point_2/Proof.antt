@@ -1,3 +1,4 @@
+-- The proof that `search::point_2` keeps its contract.
 use borrow.Author.Needs.{needs}
 use Rattle.points.proofs.Searches.{downs}
 use Rattle.points.proofs.search.point_2.Statement.{statement}

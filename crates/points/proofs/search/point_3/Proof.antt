@@ -1,3 +1,4 @@
+-- The proof that `search::point_3` keeps its contract.
 use borrow.Author.Needs.{needs}
 use Rattle.points.proofs.Searches.{scans}
 use Rattle.points.proofs.search.point_3.Statement.{statement}

@@ -1,3 +1,4 @@
+-- The proof that `search::point_after` keeps its contract.
 use borrow.Author.Needs.{needs}
 use Rattle.points.proofs.Searches.{scans}
 use Rattle.points.proofs.search.point_after.Statement.{statement}

@@ -1,3 +1,4 @@
+-- The proof that `start::start_good` keeps its contract.
 use borrow.Author.Needs.{needs}
 use Rattle.points.proofs.Steps.{starts}
 use Rattle.points.proofs.start.start_good.Statement.{statement}

@@ -1,3 +1,4 @@
+-- The proof that `step::row` keeps its contract.
 use borrow.Author.Needs.{needs}
 use Rattle.points.proofs.Steps.{rows}
 use mathlib.Core.Logic.{⊎-elim}

@@ -1,3 +1,4 @@
+-- The proof that `step::step` keeps its contract.
 use borrow.Author.Needs.{needs}
 use Rattle.points.proofs.Steps.{calls}
 use Rattle.points.proofs.step.step.Statement.{statement}

@@ -1,3 +1,4 @@
+-- The proof that `step::step_good` keeps its contract.
 use borrow.Author.Needs.{needs}
 use Rattle.points.proofs.Steps.{steps, ready}
 use Rattle.points.proofs.step.step_good.Statement.{statement}
