@@ -1,2 +1,3 @@
 -- The calls of a driver, as definitions.
 pub mod Calls
+pub mod Answers

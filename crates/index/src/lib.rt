@@ -1,5 +1,5 @@
 // The calls a driver makes, over a lent block and a lent row of process records: make, start, step.
-// Each takes at most one record out of the row, hands it by value to the calls below, and puts it back. None asks anything of its caller.
+// Each takes at most one record out of the row, hands it by value to the calls below, and puts it back. No public one asks anything of its caller.
 ghost use mathlib.Core.Path.{_≡_};
 ghost use Prim.Native.Nat.{_-_, _≤_};
 ghost use lib.ListN.{getD, set, length, replicate};
