@@ -109,23 +109,9 @@ pub fn started_as(operation: u32, key: u32) -> Process
 pub fn restarted(q: Process) -> Process
     ensures { λ r. ⌜ r ≡ restartedOf q ⌝ }
 {
-    Process {
-        operation: q.operation,
-        key: q.key,
-        point: 1,
-        gp: 0,
-        p: 1,
-        l: 0,
-        pseen: Pending::Clean(0),
-        gseen: Pending::Clean(0),
-        index: 0,
-        mask: 0,
-        helped: 0,
-        other: 0,
-        depth: 0,
-        own: 0,
-        steps: q.steps,
-    }
+    let mut r = started_as(q.operation, q.key);
+    r.steps = q.steps;
+    r
 }
 
 pub fn with_point(q: Process, point: u32) -> Process
@@ -239,10 +225,7 @@ pub fn to_three(q: Process) -> Process
 pub fn to_twelve(q: Process) -> Process
     ensures { λ r. ⌜ r ≡ toTwelve q ⌝ }
 {
-    let mut r = q;
-    r.point = 12;
-    r.index = 1;
-    r
+    with_index(with_point(q, 12), 1)
 }
 
 // "Helping a replace goes to 6, a prune to 9, a mark to 11 with its record"; the record being helped is set, the index is 1 at 6 and 11, the other node cleared at 11.

@@ -1,0 +1,2 @@
+-- The laws of the process record, return by return.
+pub mod Laws
