@@ -25,7 +25,8 @@ use Rattle.points.specs.Touch.{Out, out}
 use Rattle.points.specs.Step.{stepReasons, stepRefused, stepDone, stepOf, startReasons, startRefused, startOf}
 use Rattle.points.specs.declared.start.Started.{Started}
 use Rattle.points.specs.declared.start.StartAnswer.the-variants as starts
-use Rattle.index.specs.Calls.{recordOf, withRecord, makeReasons, MakeOut, makeOut, makeCall, MakingOut, makingOut, countedOf, makingRefused, makingDone, makingOf, StartOut, startOut, startCall, StepOut, stepOut, stepCall}
+use Rattle.index.specs.Calls.{recordOf, withRecord, makeReasons, MakeOut, makeOut, makeCall, StartOut, startOut, startCall, StepOut, stepOut, stepCall}
+use Rattle.index.specs.Parts.{MakingOut, makingOut, countedOf, makingRefused, makingDone, makingOf}
 use Rattle.index.specs.declared.Making.{Making}
 
 -- a function of what is decided is decided by the same reasons

@@ -21,7 +21,6 @@ use Rattle.points.specs.Rows.{rowOf}
 use Rattle.points.specs.Step.{stepReasons, startReasons}
 use Rattle.points.specs.declared.start.StartAnswer.{StartAnswer}
 use Rattle.points.specs.declared.start.StartAnswer.the-variants as starts
-use Rattle.index.specs.declared.Making.{Making}
 
 -- "numbered from 1": the record of process n stands at n − 1
 abbrev pub recordOf : List Process → ℕ → Process
@@ -88,25 +87,3 @@ stepCall b row n =
     decide (stepReasons b (length row) n (recordOf row n))
     (λ r. stepOut (steps.Refused (refusal r)) b row)
     (stepBy row n (rowOf b (headerOf b) n (recordOf row n)))
-
--- a making on its way: the block is done, and so many records are still to be made idle
-pub record MakingOut : Type 0 where
-  pub making : Making
-  pub block : List ℕ
-
-abbrev pub makingOut : Making → List ℕ → MakingOut
-makingOut m b = record { making = m; block = b }
-
-abbrev pub countedOf : Made → ℕ → Making
-countedOf made.Done processes = record { made = made.Done; count = processes }
-countedOf (made.Refused e) processes = record { made = made.Refused e; count = 0 }
-
-abbrev pub makingRefused : List ℕ → ℕ → ℕ → MakingOut
-makingRefused b processes n = makingOut (countedOf (made.Refused (refusal n)) processes) b
-
-abbrev pub makingDone : List ℕ → ℕ → ℕ → ℕ → ℕ → MakingOut
-makingDone b k processes nodes records = makingOut (countedOf made.Done processes) (overFront (freshBlock (freshHeader k processes nodes records)) b)
-
-unfoldable pub makingOf : List ℕ → ℕ → ℕ → ℕ → ℕ → ℕ → MakingOut
-makingOf b rows k processes nodes records =
-    decide (makeReasons b rows k processes nodes records) (makingRefused b processes) (makingDone b k processes nodes records)

@@ -5,7 +5,8 @@ ghost use Prim.Native.Nat.{_-_, _≤_};
 ghost use lib.ListN.{getD, set, length, replicate};
 ghost use Rattle.tables.specs.Fresh.{overFront};
 ghost use Rattle.process.specs.Process.{idle};
-ghost use Rattle.index.specs.Calls.{makeOut, makeCall, startOut, startCall, stepOut, stepCall, makingOut, makingOf, countedOf};
+ghost use Rattle.index.specs.Calls.{makeOut, makeCall, startOut, startCall, stepOut, stepCall};
+ghost use Rattle.index.specs.Parts.{makingOut, makingOf, countedOf};
 
 pub mod held;
 

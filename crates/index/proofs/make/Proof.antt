@@ -46,7 +46,8 @@ use Rattle.tables.specs.Fresh.{overFront}
 use Rattle.tables.specs.declared.fresh.Made.{Made}
 use Rattle.tables.proofs.fresh.Made as R
 use Rattle.tables.proofs.fresh.Made.Laws as R′
-use Rattle.index.specs.Calls.{makeOut, makeCall, makingOut, makingOf}
+use Rattle.index.specs.Calls.{makeOut, makeCall}
+use Rattle.index.specs.Parts.{makingOut, makingOf}
 use Rattle.index.specs.declared.Making.{Making}
 use Rattle.index.proofs.Making as O
 use Rattle.index.proofs.Making.Laws as O′
