@@ -50,7 +50,7 @@ answer-field-short : (a : ℕ) → length (answerField a) ≤ 12
 unfolding answerField
 answer-field-short a = rw (length-append (bytes " answer=") (answerWord a)) (omega (arith, answer-word-short a))
 
--- "each printed line at most 128 bytes", where its numbers are of 32 bits
+-- each printed line has at most 128 bytes where its numbers are of 32 bits
 pub answer-short : (a : AnswerLine) → a .process ≤ most → a .key ≤ most → a .steps ≤ most → length (answerLine a) ≤ 128
 answer-short a p k s =
     simp length-append
