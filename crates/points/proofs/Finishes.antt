@@ -89,6 +89,15 @@ module _ (b : List ℕ) (h : Header) (n : ℕ) (q : Process) (node kind word : �
 
 pub ruleset unflags = (unflag-good, unflag-bad)
 
+-- the two writes of 10: a flag swapped for clean, a stack word cleared
+pub clear-is : (b e : List ℕ) (h : Header) (node word helped kind at : ℕ) → at ≡ nodeAt h node (pendingPlace (h .k)) →
+    e ≡ pick (eqb word (4 * helped + kind)) (set b at (4 * helped)) b →
+    e ≡ pick (eqb word (4 * helped + kind)) (set b (nodeAt h node (pendingPlace (h .k))) (4 * helped)) b
+clear-is b e h node word helped kind at f g = g ∙ rw f refl
+
+pub pop-is : (b e : List ℕ) (h : Header) (n depth d at : ℕ) → d ≡ depth - 1 → at ≡ stackAt h n d → e ≡ set b at 0 → e ≡ set b (stackAt h n (depth - 1)) 0
+pop-is b e h n depth d at f g i = i ∙ rw (g, f) refl
+
 module _ (b : List ℕ) (h : Header) (n : ℕ) (q : Process) (word : ℕ) (s : Stepped) where
   pub push-on : (q1 : Process) (v : Pending) (d at : ℕ) (e : List ℕ) → d ≡ depthOf h → q .depth < d → at ≡ stackAt h n (q .depth) → e ≡ set b at (q .helped) →
       q1 ≡ withDepth q (q .depth + 1) → v ≡ pendingOf word → s ≡ helping (q .helped) q1 v → out s e ≡ pushed b h n q word

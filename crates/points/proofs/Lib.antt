@@ -1,4 +1,4 @@
--- The laws of start and the fourteen points: return by return, then the theorems on refusals and touches.
+-- The laws of start and the fourteen points, return by return; then, from Accepted on, the theorems: answers, refusals, what a step touches and leaves.
 pub mod Rowed
 pub mod Helps
 pub mod Searches

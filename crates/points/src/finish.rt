@@ -126,7 +126,7 @@ fn unflag(block: &mut [u32], h: Header, n: u32, q: Process, node: u32, kind: u32
     }
 }
 
-// The fields of the record being helped: l, p, the third, the expected pending.
+// Of the record being helped: l, p, and the third, which is the new child or gp.
 fn helped_l(block: &[u32], h: Header, q: Process) -> u32
     ensures { λ r. ⌜ r ≡ helpedL (now (block .entry)) h q ⌝ }
 {

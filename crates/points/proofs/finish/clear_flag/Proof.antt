@@ -1,5 +1,6 @@
 -- The proof that `finish::clear_flag` keeps its contract.
 use borrow.Author.Needs.{needs}
+use Rattle.points.proofs.Finishes.{clear-is}
 use Rattle.points.proofs.finish.clear_flag.Statement.{statement}
 use Rattle.points.proofs.finish.clear_flag.Tie as tie
 
@@ -12,5 +13,5 @@ clear-flag-spec =
     (λ c. search needs)  -- add-swap
     (λ c κs. search needs)  -- swap-requires
     (λ c. search needs)  -- same-length
-    (λ c. cc)  -- returns
+    (λ c. search clear-is)  -- returns
     )

@@ -1,5 +1,6 @@
 -- The proof that `finish::pop` keeps its contract.
 use borrow.Author.Needs.{needs}
+use Rattle.points.proofs.Finishes.{pop-is}
 use Rattle.points.proofs.finish.pop.Statement.{statement}
 use Rattle.points.proofs.finish.pop.Tie as tie
 
@@ -11,5 +12,5 @@ pop-spec =
     (λ c κs. search needs)  -- stack-at-requires
     (λ c κs. search needs)  -- put-at-requires
     (λ c. search needs)  -- same-length
-    (λ c. cc)  -- returns
+    (λ c. search pop-is)  -- returns
     )
