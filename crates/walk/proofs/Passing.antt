@@ -1,0 +1,272 @@
+-- The two passes, return by return and turn by turn: each keeps what its definition says of the walk.
+use Prim.Native.Nat.{ℕ, zero, suc, _+_, _*_, _-_, _≤_, _<_}
+use mathlib.Core.Path.{_≡_, refl, sym, ap, subst, _∙_}
+use mathlib.Core.Bool.{Bool, true, false}
+use mathlib.Core.List.{List, [], _∷_, _++_}
+use native.Mathlib.Omega.{arith}
+use native.Mathlib.Numerals.{add-one}
+use lib.ListN.{length, set, length-append}
+use lib.Seq.{sets, length-sets}
+use Rattle.tables.specs.Choice.{pick, both, within, listed}
+use Rattle.tables.specs.Layout.{keyWord}
+use Rattle.tables.specs.Keys.{keysOf, rises}
+use Rattle.tables.specs.Node.{kinOf, childOf}
+use Rattle.tables.specs.declared.header.Header.{Header}
+use Rattle.tables.specs.declared.node.Kin.{Kin}
+use Rattle.tables.specs.declared.node.Kin.the-variants.{Leaf, Internal}
+use Rattle.tables.specs.declared.node.Child.{Child}
+use Rattle.tables.specs.declared.node.Child.the-variants.{Node, Damaged}
+use Rattle.tables.proofs.Keyed.{keys-length}
+use Rattle.walk.specs.Walk.{Walk, walk, begin, damaged, leafMet, metFrom, walked}
+use Rattle.walk.specs.Calls.{either, anyWithin}
+use Rattle.walk.specs.Passes.{measureOf, measured, spentMeter, damagedMeter, spentFilling, Measured, Filled}
+use Rattle.walk.specs.declared.meter.Meter.{Meter}
+use Rattle.walk.specs.declared.fill.Filling.{Filling}
+use Rattle.walk.proofs.Walks.{both-false, both-true, both-assoc, after, children, met-leaf, met-internal, met-damaged, met-none, child-more, child-none}
+
+-- either, and the keys in a range, over what is met in two parts
+either-none : (s : Bool) → either s false ≡ s
+unfolding pick
+either-none true = refl
+either-none false = refl
+
+either-assoc : (r s t : Bool) → either (either r s) t ≡ either r (either s t)
+unfolding pick
+either-assoc true s t = refl
+either-assoc false s t = refl
+
+module _ (low high : ℕ) where
+  pub any-append : (ks ls : List ℕ) → anyWithin low high (ks ++ ls) ≡ either (anyWithin low high ks) (anyWithin low high ls)
+  unfolding anyWithin pick
+  any-append [] ls = refl
+  any-append (x ∷ xs) ls = ap (either (within low x high)) (any-append xs ls) ∙ sym (either-assoc (within low x high) (anyWithin low high xs) (anyWithin low high ls))
+
+  any-one : (x : ℕ) → anyWithin low high (x ∷ []) ≡ within low x high
+  unfolding anyWithin
+  any-one x = either-none (within low x high)
+
+-- a leaf's keys, one more at a time
+listed-more : (f : ℕ → ℕ) (i n : ℕ) → listed f i (n + 1) ≡ listed f i n ++ f (i + n) ∷ []
+unfolding listed
+listed-more f i n = rw (add-one n) (go i n)
+  where
+    go : (i n : ℕ) → listed f i (suc n) ≡ listed f i n ++ f (i + n) ∷ []
+    go i zero = let e : i + 0 ≡ i = omega arith in rw e refl
+    go i (suc n) = let e : i + suc n ≡ i + 1 + n = omega arith in rw e (ap (λ (l : List ℕ). f i ∷ l) (go (i + 1) n))
+
+sets-append : (l : List ℕ) (at : ℕ) (ks ls : List ℕ) → sets l at (ks ++ ls) ≡ sets (sets l at ks) (at + length ks) ls
+sets-append l at [] ls = let e : at + 0 ≡ at = omega arith in rw e refl
+sets-append l at (k ∷ ks) ls = let e : at + suc (length ks) ≡ suc at + length ks = omega arith in rw e (sets-append (set l at k) (suc at) ks ls)
+
+pub stored-length : (list₀ list ks : List ℕ) (at : ℕ) → list ≡ sets list₀ at ks → length list ≡ length list₀
+stored-length list₀ list ks at e = ap length e ∙ length-sets list₀ at ks
+
+module _ (b : List ℕ) (h : Header) (node : ℕ) where
+  pub within-none : (low high : ℕ) → false ≡ anyWithin low high (keysOf b h node 0)
+  unfolding anyWithin listed
+  within-none low high = refl
+
+  pub stored-none : (list : List ℕ) (at : ℕ) → list ≡ sets list at (keysOf b h node 0)
+  unfolding listed
+  stored-none list at = refl
+
+module _ (b : List ℕ) (h : Header) (node i : ℕ) where
+  keys-more : keysOf b h node (i + 1) ≡ keysOf b h node i ++ keyWord b h node (i + 1) ∷ []
+  keys-more = let e : 1 + i ≡ i + 1 = omega arith in listed-more (λ j. keyWord b h node j) 1 i ∙ ap (λ (j : ℕ). keysOf b h node i ++ keyWord b h node j ∷ []) e
+
+  pub within-more : (low high key : ℕ) (found inside r : Bool) → found ≡ anyWithin low high (keysOf b h node i) → key ≡ keyWord b h node (i + 1) →
+      inside ≡ within low key high → r ≡ either found inside → r ≡ anyWithin low high (keysOf b h node (i + 1))
+  within-more low high key found inside r e f g j = cc (keys-more, any-append low high (keysOf b h node i) (keyWord b h node (i + 1) ∷ []), any-one low high (keyWord b h node (i + 1)))
+
+  pub within-all : (low high n : ℕ) (found : Bool) → i ≤ n → n ≤ i → found ≡ anyWithin low high (keysOf b h node i) → found ≡ anyWithin low high (keysOf b h node n)
+  within-all low high n found p q e = let z : i ≡ n = omega arith in e ∙ ap (λ (j : ℕ). anyWithin low high (keysOf b h node j)) z
+
+  pub stored-more : (list₀ list list′ : List ℕ) (at key : ℕ) → list ≡ sets list₀ at (keysOf b h node i) → key ≡ keyWord b h node (i + 1) → list′ ≡ set list (at + i) key →
+      list′ ≡ sets list₀ at (keysOf b h node (i + 1))
+  stored-more list₀ list list′ at key e f g =
+      g
+      ∙ rw (e, f) (ap (λ (j : ℕ). set (sets list₀ at (keysOf b h node i)) (at + j) (keyWord b h node (i + 1))) (sym (keys-length b h node i)))
+      ∙ sym (sets-append list₀ at (keysOf b h node i) (keyWord b h node (i + 1) ∷ []))
+      ∙ ap (sets list₀ at) (sym keys-more)
+
+  pub stored-all : (list₀ list : List ℕ) (at n : ℕ) → i ≤ n → n ≤ i → list ≡ sets list₀ at (keysOf b h node i) → list ≡ sets list₀ at (keysOf b h node n)
+  stored-all list₀ list at n p q e = let z : i ≡ n = omega arith in e ∙ ap (λ (j : ℕ). sets list₀ at (keysOf b h node j)) z
+
+-- a measure by its parts
+same-meter : (a c d : ℕ) (f g s t : Bool) → c ≡ d → f ≡ g → s ≡ t →
+    _≡_ {A = Meter} (record { allowed = a; count = c; found = f; sound = s }) (record { allowed = a; count = d; found = g; sound = t })
+same-meter a c d f g s t e j k = cc
+
+module _ (low high : ℕ) where
+  measured-damaged : (m : Meter) (a : ℕ) → measured low high m (damaged (begin a)) ≡ record { allowed = a; count = m .count; found = m .found; sound = false }
+  unfolding anyWithin
+  measured-damaged m a = same-meter a _ _ _ _ _ _ (omega arith) (either-none (m .found)) (both-false (m .sound))
+
+  measured-begin : (m : Meter) → measured low high m (begin (m .allowed)) ≡ m
+  unfolding anyWithin
+  measured-begin m = same-meter (m .allowed) _ _ _ _ _ _ (omega arith) (either-none (m .found)) (both-true (m .sound))
+
+  measured-after : (m : Meter) (w x : Walk) → measured low high (measured low high m w) x ≡ measured low high m (after w x)
+  measured-after m w x =
+      same-meter (x .allowed) _ _ _ _ _ _
+      (omega (arith, length-append (w .keys) (x .keys)))
+      (either-assoc (m .found) _ _ ∙ ap (either (m .found)) (sym (any-append low high (w .keys) (x .keys))))
+      (both-assoc (m .sound) (w .sound) (x .sound))
+
+  pub leaf-measured : (b : List ℕ) (h : Header) (node count : ℕ) (m : Meter) (found rising f s : Bool) → 0 < m .allowed → count < 256 →
+      found ≡ anyWithin low high (keysOf b h node count) → rising ≡ rises (keysOf b h node count) → f ≡ either (m .found) found → s ≡ both (m .sound) rising →
+      Measured low high m (leafMet b h node count (begin (m .allowed - 1))) (record { allowed = m .allowed - 1; count = m .count + count; found = f; sound = s })
+  unfolding both
+  leaf-measured b h node count m found rising f s p q e g i j =
+      record {
+        is = same-meter (m .allowed - 1) _ _ _ _ _ _ (ap (λ (n : ℕ). m .count + n) (sym (keys-length b h node count))) (i ∙ ap (either (m .found)) e) (j ∙ ap (both (m .sound)) g);
+        fewer = omega arith;
+        room = omega arith;
+      }
+
+  module _ (b : List ℕ) (h : Header) (child : Child) (m : Meter) where
+    pub measure-none : (r : Meter) → m .allowed ≡ 0 → r ≡ damagedMeter m → Measured low high m (metFrom b h child (m .allowed)) r
+    measure-none r e f =
+        record {
+          is = f ∙ sym (ap (measured low high m) (met-none b h child (m .allowed) e) ∙ measured-damaged m (m .allowed));
+          fewer = rw f (omega arith);
+          room = rw f (omega arith);
+        }
+
+    module _ (some : m .allowed ≡ 0 → ⊥) where
+      pub measure-damaged : (v r : Meter) → child ≡ Damaged → v ≡ spentMeter m → r ≡ damagedMeter v → Measured low high m (metFrom b h child (m .allowed)) r
+      measure-damaged v r e f g =
+          record {
+            is = g ∙ ap damagedMeter f ∙ sym (ap (measured low high m) (met-damaged b h (m .allowed) some child e) ∙ measured-damaged m (m .allowed - 1));
+            fewer = rw (g, f) (omega arith);
+            room = rw (g, f) (omega arith);
+          }
+
+      pub measure-leaf : (kin : Kin) (node count : ℕ) (r : Meter) → child ≡ Node kin → kin ≡ Leaf node count →
+          Measured low high m (leafMet b h node count (begin (m .allowed - 1))) r → Measured low high m (metFrom b h child (m .allowed)) r
+      measure-leaf kin node count r e f p = rw (met-leaf b h (m .allowed) some child node count (e ∙ ap Node f)) p
+
+      pub measure-children : (kin : Kin) (node i k : ℕ) (v r : Meter) → child ≡ Node kin → kin ≡ Internal node → v ≡ spentMeter m → k ≡ h .k → i ≤ k → k ≤ i →
+          Measured low high v (children b h (v .allowed) node i (begin (v .allowed))) r → Measured low high m (metFrom b h child (m .allowed)) r
+      measure-children kin node i k v r e f g j p q t =
+          let n : i ≡ h .k = omega arith in
+          let s = subst (λ (x : Meter). Measured low high x (children b h (x .allowed) node i (begin (x .allowed))) r) g t in
+          let u = subst (λ (n : ℕ). Measured low high (spentMeter m) (children b h (m .allowed - 1) node n (begin (m .allowed - 1))) r) n s in
+          rw (met-internal b h (m .allowed) some child node (e ∙ ap Node f))
+          (record { is = u .is; fewer = omega (arith, u .fewer); room = omega (arith, u .room) })
+
+  module _ (b : List ℕ) (h : Header) (node : ℕ) where
+    pub children-none : (v : Meter) → Measured low high v (children b h (v .allowed) node 0 (begin (v .allowed))) v
+    children-none v = rw (child-none b h (v .allowed) node (begin (v .allowed))) (record { is = sym (measured-begin v); fewer = omega arith; room = omega arith })
+
+    pub children-more : (i : ℕ) (child : Child) (v v′ r : Meter) → Measured low high v (children b h (v .allowed) node i (begin (v .allowed))) v′ → child ≡ childOf b h node (i + 1) →
+        Measured low high v′ (metFrom b h child (v′ .allowed)) r → Measured low high v (children b h (v .allowed) node (i + 1) (begin (v .allowed))) r
+    children-more i child v v′ r p e q =
+        let w = children b h (v .allowed) node i (begin (v .allowed)) in
+        record {
+          is =
+              q .is
+              ∙ ap (λ (x : Meter). measured low high x (metFrom b h child (x .allowed))) (p .is)
+              ∙ ap (λ (c : Child). measured low high (measured low high v w) (metFrom b h c (w .allowed))) e
+              ∙ measured-after v w (metFrom b h (childOf b h node (i + 1)) (w .allowed))
+              ∙ ap (measured low high v) (sym (child-more b h (v .allowed) node i (begin (v .allowed)) (omega arith)));
+          fewer = omega (arith, p .fewer, q .fewer);
+          room = omega (arith, p .room, q .room);
+        }
+
+-- the same of the filling pass
+module _ (b : List ℕ) (h : Header) where
+  pub leaf-filled : (node count : ℕ) (list list′ : List ℕ) (f : Filling) → 0 < f .allowed → count < 256 → list′ ≡ sets list (f .at) (keysOf b h node count) →
+      Filled list f (leafMet b h node count (begin (f .allowed - 1))) list′ (record { allowed = f .allowed - 1; at = f .at + count })
+  leaf-filled node count list list′ f p q e =
+      record {
+        allowed = refl;
+        at = ap (λ (n : ℕ). f .at + n) (sym (keys-length b h node count));
+        stored = e;
+        fewer = omega arith;
+        room = omega arith;
+      }
+
+  module _ (child : Child) (list : List ℕ) (f : Filling) where
+    pub fill-none : f .allowed ≡ 0 → Filled list f (metFrom b h child (f .allowed)) list f
+    fill-none e = rw (met-none b h child (f .allowed) e) (record { allowed = refl; at = omega arith; stored = refl; fewer = omega arith; room = omega arith })
+
+    module _ (some : f .allowed ≡ 0 → ⊥) where
+      pub fill-damaged : (r : Filling) → child ≡ Damaged → r ≡ spentFilling f → Filled list f (metFrom b h child (f .allowed)) list r
+      fill-damaged r e g =
+          rw (met-damaged b h (f .allowed) some child e, g) (record { allowed = refl; at = omega arith; stored = refl; fewer = omega arith; room = omega arith })
+
+      pub fill-leaf : (kin : Kin) (node count : ℕ) (list′ : List ℕ) (r : Filling) → child ≡ Node kin → kin ≡ Leaf node count →
+          Filled list f (leafMet b h node count (begin (f .allowed - 1))) list′ r → Filled list f (metFrom b h child (f .allowed)) list′ r
+      fill-leaf kin node count list′ r e g p = rw (met-leaf b h (f .allowed) some child node count (e ∙ ap Node g)) p
+
+      pub fill-children : (kin : Kin) (node i k : ℕ) (v r : Filling) (list′ : List ℕ) → child ≡ Node kin → kin ≡ Internal node → v ≡ spentFilling f → k ≡ h .k → i ≤ k → k ≤ i →
+          Filled list v (children b h (v .allowed) node i (begin (v .allowed))) list′ r → Filled list f (metFrom b h child (f .allowed)) list′ r
+      fill-children kin node i k v r list′ e g j l p q t =
+          let n : i ≡ h .k = omega arith in
+          let s = subst (λ (x : Filling). Filled list x (children b h (x .allowed) node i (begin (x .allowed))) list′ r) j t in
+          let u = subst (λ (n : ℕ). Filled list (spentFilling f) (children b h (f .allowed - 1) node n (begin (f .allowed - 1))) list′ r) n s in
+          rw (met-internal b h (f .allowed) some child node (e ∙ ap Node g))
+          (record { allowed = u .allowed; at = u .at; stored = u .stored; fewer = omega (arith, u .fewer); room = omega (arith, u .room) })
+
+  module _ (node : ℕ) (list : List ℕ) where
+    pub filled-none : (v : Filling) → Filled list v (children b h (v .allowed) node 0 (begin (v .allowed))) list v
+    filled-none v =
+        rw (child-none b h (v .allowed) node (begin (v .allowed)))
+        (record { allowed = refl; at = omega arith; stored = refl; fewer = omega arith; room = omega arith })
+
+    pub filled-more : (i : ℕ) (child : Child) (v v′ r : Filling) (list′ list″ : List ℕ) → Filled list v (children b h (v .allowed) node i (begin (v .allowed))) list′ v′ →
+        child ≡ childOf b h node (i + 1) → Filled list′ v′ (metFrom b h child (v′ .allowed)) list″ r →
+        Filled list v (children b h (v .allowed) node (i + 1) (begin (v .allowed))) list″ r
+    filled-more i child v v′ r list′ list″ p e q = rw (child-more b h (v .allowed) node i (begin (v .allowed)) (omega arith)) all
+      where
+        w : Walk
+        w = children b h (v .allowed) node i (begin (v .allowed))
+
+        x : Walk
+        x = metFrom b h (childOf b h node (i + 1)) (w .allowed)
+
+        met : metFrom b h child (v′ .allowed) ≡ x
+        met = rw (e, p .allowed) refl
+
+        all : Filled list v (after w x) list″ r
+        all = record {
+          allowed = q .allowed ∙ ap (λ (y : Walk). y .allowed) met;
+          at = q .at ∙ rw (p .at, met) (omega (arith, length-append (w .keys) (x .keys)));
+          stored =
+              q .stored
+              ∙ rw (p .at, p .stored, met) (sym (sets-append list (v .at) (w .keys) (x .keys)));
+          fewer = omega (arith, p .fewer, q .fewer);
+          room = omega (arith, p .room, q .room);
+        }
+
+-- the whole walk, from node 1
+module _ (b : List ℕ) (h : Header) (root : Child) (e : root ≡ kinOf b h 1) where
+  pub measured-all : (low high : ℕ) (r : Meter) →
+      Measured low high (record { allowed = h .nodesused; count = 0; found = false; sound = true }) (metFrom b h root (h .nodesused)) r → r ≡ measureOf low high (walked b h)
+  unfolding pick both
+  measured-all low high r p = p .is ∙ same-meter _ _ _ _ _ _ _ (omega arith) refl refl ∙ ap (λ (c : Child). measureOf low high (metFrom b h c (h .nodesused))) e
+
+  pub filled-all : (list list′ : List ℕ) (r : Filling) → Filled list (record { allowed = h .nodesused; at = 0 }) (metFrom b h root (h .nodesused)) list′ r →
+      list′ ≡ sets list 0 (walked b h .keys)
+  filled-all list list′ r p = p .stored ∙ ap (λ (c : Child). sets list 0 (metFrom b h c (h .nodesused) .keys)) e
+
+pub filled-length : (list list′ : List ℕ) (f r : Filling) (w : Walk) → Filled list f w list′ r → length list′ ≡ length list
+filled-length list list′ f r w p = stored-length list list′ (w .keys) (f .at) (p .stored)
+
+-- what ends the recursion, and what keeps its numbers small: a node fewer, and what hangs below it
+pub meter-falls : (m v v′ : Meter) (t : ℕ) → v ≡ spentMeter m → (m .allowed ≡ 0 → ⊥) → v′ .allowed ≤ v .allowed → m .allowed ≡ t → v′ .allowed < t
+meter-falls m v v′ t e some p f = omega (arith, ap (λ (x : Meter). x .allowed) e)
+
+pub meter-room : (m v : Meter) → v ≡ spentMeter m → m .count + 255 * m .allowed ≤ 16777216 → v .count + 255 * v .allowed ≤ 16777216
+meter-room m v e p = rw e (omega arith)
+
+pub filling-falls : (f v v′ : Filling) (t : ℕ) → v ≡ spentFilling f → (f .allowed ≡ 0 → ⊥) → v′ .allowed ≤ v .allowed → f .allowed ≡ t → v′ .allowed < t
+filling-falls f v v′ t e some p g = omega (arith, ap (λ (x : Filling). x .allowed) e)
+
+pub filling-room : (f v : Filling) → v ≡ spentFilling f → f .at + 255 * f .allowed ≤ 16777216 → v .at + 255 * v .allowed ≤ 16777216
+filling-room f v e p = rw e (omega arith)
+
+pub ruleset measuring = (measure-none, measure-damaged, measure-leaf, measure-children)
+
+pub ruleset filling = (fill-none, fill-damaged, fill-leaf, fill-children)

@@ -1,0 +1,15 @@
+-- The proof that `meter::measure_all` keeps its contract.
+use borrow.Author.Needs.{needs}
+use native.Mathlib.Omega.{arith}
+use Rattle.walk.proofs.Passing.{measured-all}
+use Rattle.walk.proofs.meter.measure_all.Statement.{statement}
+use Rattle.walk.proofs.meter.measure_all.Tie as tie
+
+pub measure-all-spec : {M : Type 1} → statement M
+measure-all-spec =
+    tie.close
+    (tie.spec
+    (λ c κs. search needs)  -- kin-of-requires
+    (λ c κs. search needs)  -- measure-requires
+    (λ c. search measured-all)  -- returns
+    )

@@ -1,0 +1,19 @@
+-- The proof that `meter::measure_leaf` keeps its contract.
+use borrow.Author.Needs.{needs}
+use native.Mathlib.Omega.{arith}
+use Rattle.walk.proofs.Passing.{leaf-measured}
+use Rattle.walk.proofs.meter.measure_leaf.Statement.{statement}
+use Rattle.walk.proofs.meter.measure_leaf.Tie as tie
+
+pub measure-leaf-spec : {M : Type 1} → statement M
+measure-leaf-spec =
+    tie.close
+    (tie.spec
+    (λ c κs. search needs)  -- leaf-within-requires
+    (λ c κs. search needs)  -- rises-requires
+    (λ c. search needs)  -- sub-t10
+    (λ c. search needs)  -- add-t12
+    (λ c κs. search needs)  -- either-requires
+    (λ c κs. search needs)  -- and-requires
+    (λ c. search leaf-measured)  -- returns
+    )
