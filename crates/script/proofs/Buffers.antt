@@ -1,9 +1,10 @@
 -- Writing, function by function: bytes one after another, a number's digits, and lines put together of their fields.
-use Prim.Native.Nat.{ℕ, zero, suc, _+_, _-_, _/_, _%_, _≤_, _<_}
+use Prim.Native.Nat.{ℕ, zero, suc, _+_, _/_, _%_, _≤_, _<_}
 use mathlib.Core.Path.{_≡_, refl, sym, ap, _∙_}
 use mathlib.Core.Bool.{Bool, true, false}
 use mathlib.Core.List.{List, [], _∷_, _++_}
 use native.Mathlib.Omega.{arith}
+use native.Mathlib.Nat.{div-eq-of-lt, mod-eq-of-lt}
 use native.Mathlib.Numerals.{add-one}
 use lib.Dec.{ltb}
 use lib.ListN.{length, getD, set, drop, drop-of-length-le}
@@ -73,26 +74,30 @@ module _ (b : List ℕ) (at : ℕ) (s t u v w x : List ℕ) (b1 b2 b3 b4 b5 b6 :
 
 -- a number's digits do not depend on how many were allowed for
 digits-enough : (f g n : ℕ) → n ≤ f → n ≤ g → digitsOf f n ≡ digitsOf g n
-unfolding digitsOf pick
+unfolding digitsOf
 digits-enough zero zero n p q = refl
-digits-enough zero (suc g) n p q = rw (lt-ltb n 10 (omega arith))
-digits-enough (suc f) zero n p q = rw (lt-ltb n 10 (omega arith))
-digits-enough (suc f) (suc g) n p q = go (ltb n 10) refl (λ (h : 10 ≤ n). digits-enough f g (n / 10) (omega arith) (omega arith))
-  where
-    go : (t : Bool) → ltb n 10 ≡ t → (10 ≤ n → digitsOf f (n / 10) ≡ digitsOf g (n / 10)) →
-        pick t ((48 + n) ∷ []) (digitsOf f (n / 10) ++ ((48 + n % 10) ∷ [])) ≡ pick t ((48 + n) ∷ []) (digitsOf g (n / 10) ++ ((48 + n % 10) ∷ []))
-    go true e r = refl
-    go false e r = rw (r (ltb-false n 10 e))
+digits-enough zero (suc g) zero p q = refl
+digits-enough zero (suc g) (suc n) p q = absurd (omega arith)
+digits-enough (suc f) zero zero p q = refl
+digits-enough (suc f) zero (suc n) p q = absurd (omega arith)
+digits-enough (suc f) (suc g) zero p q = refl
+digits-enough (suc f) (suc g) (suc n) p q = rw (digits-enough f g (suc n / 10) (omega arith) (omega arith))
+
+no-digits : (f : ℕ) → digitsOf f 0 ≡ []
+unfolding digitsOf
+no-digits zero = refl
+no-digits (suc f) = refl
 
 pub decimal-one : (n : ℕ) → n < 10 → decimal n ≡ (48 + n) ∷ []
-unfolding digitsOf pick
+unfolding decimal digitsOf pick
 decimal-one zero p = refl
-decimal-one (suc n) p = rw (lt-ltb (suc n) 10 p)
+decimal-one (suc n) p = rw (ne-eqb (suc n) 0 (omega arith), div-eq-of-lt p, mod-eq-of-lt p, no-digits n)
 
 pub decimal-more : (n : ℕ) → 10 ≤ n → decimal n ≡ decimal (n / 10) ++ ((48 + n % 10) ∷ [])
-unfolding digitsOf pick
+unfolding decimal digitsOf pick
 decimal-more zero p = absurd (omega arith)
-decimal-more (suc n) p = rw (le-ltb (suc n) 10 p, digits-enough n (suc n / 10) (suc n / 10) (omega arith) (omega arith))
+decimal-more (suc n) p =
+    rw (ne-eqb (suc n) 0 (omega arith), ne-eqb (suc n / 10) 0 (omega arith), digits-enough n (suc n / 10) (suc n / 10) (omega arith) (omega arith))
 
 -- a number of one digit, and one of more
 module _ (b d : List ℕ) (at r n : ℕ) where

@@ -2,3 +2,7 @@
 pub mod Runs
 pub mod Turns
 pub mod Buffers
+pub mod Grammar
+pub mod Decimals
+pub mod Trips
+pub mod Examples

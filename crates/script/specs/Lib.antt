@@ -3,3 +3,4 @@ pub mod Text
 pub mod Reading
 pub mod Position
 pub mod Writing
+pub mod Form

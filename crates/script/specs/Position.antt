@@ -16,6 +16,7 @@ use Rattle.script.specs.declared.read.Kind.the-variants.{Digit, Word}
 use Rattle.script.specs.declared.read.Value.{Value}
 use Rattle.script.specs.declared.read.Value.the-variants.{Fits, TooBig}
 
+-- what is left from a place on
 abbrev pub leftAt : List ℕ → Next → Left
 leftAt l (At i) = left (drop i l)
 leftAt l Bad = bad
@@ -23,6 +24,7 @@ leftAt l Bad = bad
 abbrev pub foundAt : List ℕ → Found → reading.Found
 foundAt l f = record { value = f .value; next = leftAt l (f .next) }
 
+-- the tests of the two kinds of runs
 abbrev pub belongsTo : Kind → ℕ → Bool
 belongsTo Digit b = isDigit b
 belongsTo Word b = inWord b

@@ -24,7 +24,7 @@ unfoldable pub literal : List ℕ → Left → Left
 literal word (left l) = expect word l
 literal word bad = bad
 
--- nothing is left
+-- the line was read to its end
 unfoldable pub ended : Left → Bool
 ended (left []) = true
 ended (left (x ∷ l)) = false
@@ -112,6 +112,7 @@ stepsOf l =
 abbrev pub listOf : List ℕ → Line
 listOf l = atEnd (literal (bytes "list=all") (left l)) Line.List
 
+-- the first of two that is in its form
 abbrev pub firstOf : Line → Line → Line
 firstOf (Line.Making m) b = Line.Making m
 firstOf (Line.Start s) b = Line.Start s

@@ -5,10 +5,10 @@ use Prim.Native.String as S
 use Prim.Native.Char.{code}
 use mathlib.Core.Bool.{Bool, true, false}
 use mathlib.Core.List.{List, [], _∷_, _++_}
-use lib.Dec.{ltb, eqb}
+use lib.Dec.{eqb}
 use Rattle.tables.specs.Choice.{pick, within}
 
--- the bytes of a text
+-- the bytes of a text, whose characters are all ASCII
 abbrev pub bytes : String → List ℕ
 bytes S.[] = []
 bytes (S._∷_ c s) = code c ∷ bytes s
@@ -44,10 +44,12 @@ valueFrom v (d ∷ ds) = valueFrom (10 * v + (d - 48)) ds
 abbrev pub valueOf : List ℕ → ℕ
 valueOf ds = valueFrom 0 ds
 
--- a number in decimal, with no leading zero; 0 is "0". A number has no more digits than its value and one more says.
+-- the digits of a number, none for 0: their count is limited by the number itself
 unfoldable pub digitsOf : ℕ → ℕ → List ℕ
-digitsOf zero n = (48 + n) ∷ []
-digitsOf (suc most) n = pick (ltb n 10) ((48 + n) ∷ []) (digitsOf most (n / 10) ++ ((48 + n % 10) ∷ []))
+digitsOf zero n = []
+digitsOf (suc limit) zero = []
+digitsOf (suc limit) (suc n) = digitsOf limit (suc n / 10) ++ ((48 + suc n % 10) ∷ [])
 
-abbrev pub decimal : ℕ → List ℕ
-decimal n = digitsOf n n
+-- a number in decimal, with no leading zero; 0 is "0"
+unfoldable pub decimal : ℕ → List ℕ
+decimal n = pick (eqb n 0) (bytes "0") (digitsOf n n)

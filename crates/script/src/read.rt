@@ -15,33 +15,36 @@ use crate::lines::Making;
 use crate::lines::StartLine;
 use crate::lines::StepLine;
 
-// "a line of more than 4,096 bytes is not in its form"
+// A longer line is not in its form.
 pub const LONGEST: usize = 4096;
 
-pub const MOST: u64 = 4294967295;
+// "Numbers are decimal, of 32 bits."
+const MOST: u64 = 4294967295;
 
 // Where the part of the line that is still to be read begins; or the line is not in its form.
-pub enum Next {
+enum Next {
     At(usize),
     Bad,
 }
 
 // A number of the line, or an operation, and where the rest begins.
-pub struct Found {
-    pub value: u32,
-    pub next: Next,
+struct Found {
+    value: u32,
+    next: Next,
 }
 
-pub enum Kind {
+// The two kinds of runs: a number's digits, and the bytes of an op word.
+enum Kind {
     Digit,
     Word,
 }
 
-pub enum Value {
+enum Value {
     Fits(u32),
     TooBig,
 }
 
+// What is not there leaves the whole line out of its form.
 fn missing() -> Found
     ensures { λ r. ⌜ r ≡ record { value = 0; next = Next.Bad } ⌝ }
 {
@@ -51,6 +54,7 @@ fn missing() -> Found
     }
 }
 
+// Each byte of a literal in turn.
 fn literal_at(line: &[u8], at: usize, word: &[u8]) -> Next
     ensures { λ r. ⌜ leftAt (now (line .entry)) r ≡ expect (now (word .entry)) (drop at (now (line .entry))) ⌝ }
 {
@@ -178,6 +182,7 @@ fn is_word(bytes: &[u8], word: &[u8]) -> bool
     ended(bytes, next)
 }
 
+// "an unknown op is 5", after 4: it is passed on as an operation that the call refuses.
 fn op_of(word: &[u8]) -> u32
     ensures { λ r. ⌜ r ≡ opOfWord (now (word .entry)) ⌝ }
 {

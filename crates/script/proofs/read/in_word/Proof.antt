@@ -1,5 +1,4 @@
 -- The proof that `read::in_word` keeps its contract.
-use borrow.Author.Needs.{needs}
 use Rattle.tables.proofs.Picks.{picks}
 use Rattle.script.proofs.read.in_word.Statement.{statement}
 use Rattle.script.proofs.read.in_word.Tie as tie

@@ -1,7 +1,7 @@
 -- The proof that `write::put_bytes` keeps its contract.
 use borrow.Author.Needs.{needs}
 use mathlib.Core.Path.{_≡_}
-use Prim.Native.Nat.{_≤_, _-_}
+use Prim.Native.Nat.{_-_}
 use native.Mathlib.Omega.{arith}
 use lib.ListN.{length, length-set, drop}
 use Rattle.script.specs.Writing.{written}
