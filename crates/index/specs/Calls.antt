@@ -1,0 +1,112 @@
+-- Document 01, "What a call returns": making, a start and a step over a lent block and a lent row of process records. Each says its answer, the whole block and the whole row afterwards, on every input.
+use Prim.Native.Nat.{ℕ, _-_}
+use mathlib.Core.Bool.{not}
+use mathlib.Core.List.{List, [], _∷_}
+use lib.Dec.{ltb}
+use lib.ListN.{length, getD, set}
+use Rattle.tables.specs.Choice.{Reason, reason, decide}
+use Rattle.tables.specs.Numbers.{kStored, numbersGood}
+use Rattle.tables.specs.Refusal.{refusal}
+use Rattle.tables.specs.Layout.{blockWords}
+use Rattle.tables.specs.Header.{headerOf}
+use Rattle.tables.specs.Fresh.{freshHeader, freshBlock, freshRow, overFront}
+use Rattle.tables.specs.declared.fresh.Made.{Made}
+use Rattle.tables.specs.declared.fresh.Made.the-variants as made
+use Rattle.process.specs.Process.{idle, startedAs}
+use Rattle.process.specs.declared.Process.{Process}
+use Rattle.process.specs.declared.StepAnswer.{StepAnswer}
+use Rattle.process.specs.declared.StepAnswer.the-variants as steps
+use Rattle.points.specs.Touch.{Row}
+use Rattle.points.specs.Rows.{rowOf}
+use Rattle.points.specs.Step.{stepReasons, startReasons}
+use Rattle.points.specs.declared.start.StartAnswer.{StartAnswer}
+use Rattle.points.specs.declared.start.StartAnswer.the-variants as starts
+use Rattle.index.specs.declared.Making.{Making}
+
+-- "numbered from 1": the record of process n stands at n − 1
+abbrev pub recordOf : List Process → ℕ → Process
+recordOf row n = getD row (n - 1) idle
+
+abbrev pub withRecord : List Process → ℕ → Process → List Process
+withRecord row n q = set row (n - 1) q
+
+-- "Making checks 1, 2": 2 for the block, and for the row
+abbrev pub makeReasons : List ℕ → ℕ → ℕ → ℕ → ℕ → ℕ → List Reason
+makeReasons b rows k processes nodes records =
+    reason 1 (not (numbersGood (kStored k) processes nodes records))
+    ∷ reason 2 (ltb (length b) (blockWords (freshHeader k processes nodes records)))
+    ∷ reason 2 (ltb rows processes)
+    ∷ []
+
+-- what a making answers, and the block and the row then
+pub record MakeOut : Type 0 where
+  pub answer : Made
+  pub block : List ℕ
+  pub row : List Process
+
+abbrev pub makeOut : Made → List ℕ → List Process → MakeOut
+makeOut a b row = record { answer = a; block = b; row = row }
+
+-- "Fresh tree (Figure 6)", "all process records idle"; "Words and records beyond those needed are untouched."
+unfoldable pub makeCall : List ℕ → List Process → ℕ → ℕ → ℕ → ℕ → MakeOut
+makeCall b row k processes nodes records =
+    decide (makeReasons b (length row) k processes nodes records)
+    (λ n. makeOut (made.Refused (refusal n)) b row)
+    (makeOut made.Done (overFront (freshBlock (freshHeader k processes nodes records)) b) (overFront (freshRow idle (freshHeader k processes nodes records)) row))
+
+-- what a start answers, and the row then; the block is lent to be read
+pub record StartOut : Type 0 where
+  pub answer : StartAnswer
+  pub row : List Process
+
+abbrev pub startOut : StartAnswer → List Process → StartOut
+startOut a row = record { answer = a; row = row }
+
+-- a start of process n
+unfoldable pub startCall : List ℕ → List Process → ℕ → ℕ → ℕ → StartOut
+startCall b row n operation key =
+    decide (startReasons b (length row) n (recordOf row n) operation key)
+    (λ r. startOut (starts.Refused (refusal r)) row)
+    (startOut starts.Accepted (withRecord row n (startedAs operation key)))
+
+-- what a step answers, and the block and the row then
+pub record StepOut : Type 0 where
+  pub answer : StepAnswer
+  pub block : List ℕ
+  pub row : List Process
+
+abbrev pub stepOut : StepAnswer → List ℕ → List Process → StepOut
+stepOut a b row = record { answer = a; block = b; row = row }
+
+-- "Each accepted step does the one row of its point": what it leaves in the block, and in the record of process n
+abbrev pub stepBy : List Process → ℕ → Row → StepOut
+stepBy row n done = stepOut (done .stepped .answer) (done .block) (withRecord row n (done .stepped .process))
+
+-- a step of process n
+unfoldable pub stepCall : List ℕ → List Process → ℕ → StepOut
+stepCall b row n =
+    decide (stepReasons b (length row) n (recordOf row n))
+    (λ r. stepOut (steps.Refused (refusal r)) b row)
+    (stepBy row n (rowOf b (headerOf b) n (recordOf row n)))
+
+-- a making on its way: the block is done, and so many records are still to be made idle
+pub record MakingOut : Type 0 where
+  pub making : Making
+  pub block : List ℕ
+
+abbrev pub makingOut : Making → List ℕ → MakingOut
+makingOut m b = record { making = m; block = b }
+
+abbrev pub countedOf : Made → ℕ → Making
+countedOf made.Done processes = record { made = made.Done; count = processes }
+countedOf (made.Refused e) processes = record { made = made.Refused e; count = 0 }
+
+abbrev pub makingRefused : List ℕ → ℕ → ℕ → MakingOut
+makingRefused b processes n = makingOut (countedOf (made.Refused (refusal n)) processes) b
+
+abbrev pub makingDone : List ℕ → ℕ → ℕ → ℕ → ℕ → MakingOut
+makingDone b k processes nodes records = makingOut (countedOf made.Done processes) (overFront (freshBlock (freshHeader k processes nodes records)) b)
+
+unfoldable pub makingOf : List ℕ → ℕ → ℕ → ℕ → ℕ → ℕ → MakingOut
+makingOf b rows k processes nodes records =
+    decide (makeReasons b rows k processes nodes records) (makingRefused b processes) (makingDone b k processes nodes records)

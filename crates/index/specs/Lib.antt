@@ -1,0 +1,2 @@
+-- The calls of a driver, as definitions.
+pub mod Calls
