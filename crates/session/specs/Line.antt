@@ -162,3 +162,7 @@ abbrev pub isOver : Stage → Bool
 isOver stage.First = false
 isOver stage.Made = false
 isOver stage.Ended = true
+
+-- the input has ended, and the run with it
+abbrev pub finished : Session → Session
+finished s = record { stage = stage.Ended; row = s .row }

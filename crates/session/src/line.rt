@@ -1,7 +1,7 @@
 // What one line of the script does: the making line first, then starts, steps and listings.
 ghost use mathlib.Core.Path.{_≡_};
 ghost use Rattle.index.specs.Calls.{recordOf, stepOut};
-ghost use Rattle.session.specs.Line.{withinBench, begun, turnOf, did, done, endedBy, refusedBy, makingDone, firstDone, startDone, goesOn, stepsOf, stepsSaid, stepsDone, listDone, laterDone, lineDone, isOver};
+ghost use Rattle.session.specs.Line.{withinBench, begun, turnOf, did, done, endedBy, refusedBy, makingDone, firstDone, startDone, goesOn, stepsOf, stepsSaid, stepsDone, listDone, laterDone, lineDone, isOver, finished};
 ghost use Rattle.session.specs.declared.line.Said.the-variants.{Refused};
 ghost use Rattle.session.specs.declared.line.Stage.the-variants.{Ended, Made as MadeStage};
 use index::held;
@@ -268,5 +268,16 @@ pub fn is_over(s: Session) -> bool
         Stage::First => false,
         Stage::Made => false,
         Stage::Ended => true,
+    }
+}
+
+// The input has ended, and the run with it.
+pub fn finish(s: Session) -> Session
+    ensures { λ r. ⌜ r ≡ finished s ⌝ }
+{
+    let row = s.row;
+    Session {
+        stage: Stage::Ended,
+        row: row,
     }
 }

@@ -1,3 +1,4 @@
+-- The proof that `cut::line_end` keeps its contract.
 use borrow.Author.Needs.{needs}
 use mathlib.Core.Path.{_≡_}
 use Prim.Native.Nat.{_+_, _-_}

@@ -1,3 +1,4 @@
+-- The proof that `line::act` keeps its contract.
 use borrow.Author.Needs.{needs}
 use Rattle.session.proofs.Lines.{lines}
 use Rattle.session.proofs.line.act.Statement.{statement}

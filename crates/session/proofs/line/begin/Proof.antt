@@ -1,3 +1,4 @@
+-- The proof that `line::begin` keeps its contract.
 use borrow.Author.Needs.{needs}
 use Rattle.session.proofs.line.begin.Statement.{statement}
 use Rattle.session.proofs.line.begin.Tie as tie

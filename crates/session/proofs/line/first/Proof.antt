@@ -1,3 +1,4 @@
+-- The proof that `line::first` keeps its contract.
 use borrow.Author.Needs.{needs}
 use Rattle.session.proofs.Lines.{firsts}
 use Rattle.session.proofs.line.first.Statement.{statement}

@@ -1,3 +1,4 @@
+-- The proof that `line::later` keeps its contract.
 use borrow.Author.Needs.{needs}
 use Rattle.session.proofs.Lines.{laters}
 use Rattle.session.proofs.line.later.Statement.{statement}

@@ -1,3 +1,4 @@
+-- The proof that `line::list_all` keeps its contract.
 use borrow.Author.Needs.{needs}
 use Rattle.session.proofs.Lines.{lists}
 use Rattle.session.proofs.line.list_all.Statement.{statement}

@@ -1,3 +1,4 @@
+-- The proof that `line::making` keeps its contract.
 use borrow.Author.Needs.{needs}
 use Rattle.session.proofs.Lines.{makings}
 use Rattle.session.proofs.line.making.Statement.{statement}

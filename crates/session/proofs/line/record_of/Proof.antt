@@ -1,3 +1,4 @@
+-- The proof that `line::record_of` keeps its contract.
 use borrow.Author.Needs.{needs}
 use native.Mathlib.Omega.{arith}
 use Rattle.session.proofs.Lines.{records, record-past}

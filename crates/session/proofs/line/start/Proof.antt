@@ -1,3 +1,4 @@
+-- The proof that `line::start` keeps its contract.
 use borrow.Author.Needs.{needs}
 use Rattle.session.proofs.Lines.{starts}
 use Rattle.session.proofs.line.start.Statement.{statement}

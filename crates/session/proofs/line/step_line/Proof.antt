@@ -1,3 +1,4 @@
+-- The proof that `line::step_line` keeps its contract.
 use borrow.Author.Needs.{needs}
 use Rattle.session.proofs.Lines.{step-line-by}
 use Rattle.session.proofs.line.step_line.Statement.{statement}

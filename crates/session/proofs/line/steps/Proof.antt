@@ -1,3 +1,4 @@
+-- The proof that `line::steps` keeps its contract.
 use borrow.Author.Needs.{needs}
 use mathlib.Core.Path.{_≡_}
 use lib.ListN.{length}

@@ -1,3 +1,4 @@
+-- The proof that `line::steps_said` keeps its contract.
 use borrow.Author.Needs.{needs}
 use Rattle.session.proofs.Lines.{answers}
 use Rattle.session.proofs.line.steps_said.Statement.{statement}

@@ -1,3 +1,4 @@
+-- The proof that `line::within_bench` keeps its contract.
 use borrow.Author.Needs.{needs}
 use Rattle.session.proofs.line.within_bench.Statement.{statement}
 use Rattle.session.proofs.line.within_bench.Tie as tie

@@ -1,3 +1,4 @@
+-- The proof that `text::put_keys` keeps its contract.
 use borrow.Author.Needs.{needs}
 use mathlib.Core.Path.{_≡_}
 use Prim.Native.Nat.{_-_}

@@ -1,3 +1,4 @@
+-- The proof that `text::put_said` keeps its contract.
 use borrow.Author.Needs.{needs}
 use Rattle.session.proofs.Texts.{saids}
 use Rattle.session.proofs.text.put_said.Statement.{statement}
