@@ -21,7 +21,7 @@ fn put_byte(buffer: &mut [u8], at: usize, byte: u8) -> usize
     }
 }
 
-fn put_bytes(buffer: &mut [u8], at: usize, text: &[u8]) -> usize
+pub fn put_bytes(buffer: &mut [u8], at: usize, text: &[u8]) -> usize
     ensures { λ r. ⌜ out r (now (buffer .exit)) ≡ written (now (buffer .entry)) at (now (text .entry)) ⌝ }
 {
     let mut i = at;

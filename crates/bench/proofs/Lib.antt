@@ -1,0 +1,2 @@
+-- The laws behind the program's proofs.
+pub mod Within

@@ -1,0 +1,4 @@
+-- The laws behind the session's proofs.
+pub mod Lines
+pub mod Texts
+pub mod Cuts
