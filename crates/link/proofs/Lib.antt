@@ -1,1 +1,3 @@
 -- The link from the real step to the history: what each change of a block is to the tables, what every moment keeps, row by row.
+pub mod Writes
+pub mod Keyed
