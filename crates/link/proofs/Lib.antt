@@ -1,3 +1,6 @@
 -- The link from the real step to the history: what each change of a block is to the tables, what every moment keeps, row by row.
 pub mod Writes
 pub mod Keyed
+pub mod Images
+pub mod Draws
+pub mod Born
