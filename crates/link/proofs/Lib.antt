@@ -4,3 +4,5 @@ pub mod Keyed
 pub mod Images
 pub mod Draws
 pub mod Born
+pub mod Checks
+pub mod Minds
