@@ -30,16 +30,16 @@ drawn-words (to-take a m) (one-more b h w z) = absurd (omega arith)
 drawn-words (to-take a m) (one-less b w z) = out-leaf b m w z
 drawn-words (to-take a m) (sprouts b h w z) = absurd (omega arith)
 
-module _ {k : ℕ} {S : ℕ → Shared} {i j : ℕ} {M : Mind} (hk : 2 ≤ k) (R : Run k S j) (I₀ : Sound k (S 0)) (finite : M .key < infinity)
-    (r : ℕ) where
+module _ {k : ℕ} {S : ℕ → Shared} {s′ : Shared} {i j : ℕ} {M : Mind} (hk : 2 ≤ k) (R : Run k S j) (I₀ : Sound k (S 0))
+    (finite : M .key < infinity) (r : ℕ) where
   pub draws-replace : (e size : ℕ) → AtLeaf k S i j (M .key) (M .p) (M .l) e → Job (S j .view) M → S j .view .pend (M .p) ≡ 4 * e
-      → Words k (S j .view) (S (suc j) .view) (S j .nodes + 1) r M size
-      → SwapPend k (S j .nodes) (S j .view) (S (suc j) .view) (M .p) (4 * r + 1) → S (suc j) .nodes ≡ S j .nodes + size
-      → NewRecord (S j) (S (suc j)) r (replace-words (M .l) (M .p) (S j .nodes + 1) (M .process) (M .operation) (M .key))
-      → DrawReplace k (S j) (S (suc j)) r (M .p)
+      → Words k (S j .view) (s′ .view) (S j .nodes + 1) r M size
+      → SwapPend k (S j .nodes) (S j .view) (s′ .view) (M .p) (4 * r + 1) → s′ .nodes ≡ S j .nodes + size
+      → NewRecord (S j) s′ r (replace-words (M .l) (M .p) (S j .nodes + 1) (M .process) (M .operation) (M .key))
+      → DrawReplace k (S j) s′ r (M .p)
   draws-replace e size a job z ws flag cnt nr = go (replace-ready hk R I₀ a z)
     where
-      go : ReplaceReady k (S j) (M .key) (M .p) (M .l) → DrawReplace k (S j) (S (suc j)) r (M .p)
+      go : ReplaceReady k (S j) (M .key) (M .p) (M .l) → DrawReplace k (S j) s′ r (M .p)
       go y = record {
         x = M .key;
         operation = M .operation;
@@ -60,13 +60,13 @@ module _ {k : ℕ} {S : ℕ → Shared} {i j : ℕ} {M : Mind} (hk : 2 ≤ k) (R
       }
 
   pub draws-prune : (d : Deleting k S i j M k) → M .ones ≡ 2 → S j .view .tag (M .l) ≡ 1 → S j .view .pend (M .gp) ≡ M .gseen
-      → SwapPend k (S j .nodes) (S j .view) (S (suc j) .view) (M .gp) (4 * r + 2) → S (suc j) .nodes ≡ S j .nodes
-      → NewRecord (S j) (S (suc j)) r (prune-words (M .l) (M .p) (M .gp) (M .pseen) (M .process) (M .key))
-      → DrawPrune k (S j) (S (suc j)) r (M .gp)
+      → SwapPend k (S j .nodes) (S j .view) (s′ .view) (M .gp) (4 * r + 2) → s′ .nodes ≡ S j .nodes
+      → NewRecord (S j) s′ r (prune-words (M .l) (M .p) (M .gp) (M .pseen) (M .process) (M .key))
+      → DrawPrune k (S j) s′ r (M .gp)
   draws-prune d two one z flag cnt nr =
       go (prune-ready hk R I₀ (d .g) (d .leaf) (rw (d .gp-clean) at (d .up)) (rw two at (d .counted)) one (d .has) (z ∙ d .gp-clean))
     where
-      go : PruneReady k (S j) (M .key) (M .gp) (M .p) (M .l) (d .e) → DrawPrune k (S j) (S (suc j)) r (M .gp)
+      go : PruneReady k (S j) (M .key) (M .gp) (M .p) (M .l) (d .e) → DrawPrune k (S j) s′ r (M .gp)
       go y = record {
         x = M .key;
         process = M .process;

@@ -6,3 +6,4 @@ pub mod Draws
 pub mod Born
 pub mod Checks
 pub mod Minds
+pub mod Moments
