@@ -7,3 +7,4 @@ pub mod Born
 pub mod Checks
 pub mod Minds
 pub mod Moments
+pub mod Seeing

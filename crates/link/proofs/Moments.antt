@@ -149,7 +149,7 @@ counters-root {k} a c f l = record {
     pos : (m : ℕ) → 0 < 2 ^ m
     pos m = pow-pos m
 
-pub restarts : {hs : ℕ → Header} {bs : ℕ → List ℕ} {i j n : ℕ} {q : Process} (now : Now hs bs j) (h′ : Header) (b′ : List ℕ) → i ≤ j → CountersBy (hs j .k) q
-    → Follows hs bs i j n h′ b′ q (goingOn (restartedOf q))
-restarts {hs} {bs} {i} {j} {n} {q} now h′ b′ l c =
-    already (restartedOf q) refl (held-root now) (counters-root (c .op-low) (c .op-high) (c .finite) (k-low now)) (descends-root now i _ l refl refl)
+pub restarts : {hs : ℕ → Header} {bs : ℕ → List ℕ} {i j : ℕ} (n : ℕ) (now : Now hs bs j) (q q₀ : Process) (h′ : Header) (b′ : List ℕ) → i ≤ j → CountersBy (hs j .k) q₀
+    → Follows hs bs i j n h′ b′ q (goingOn (restartedOf q₀))
+restarts {hs} {bs} {i} {j} n now q q₀ h′ b′ l c =
+    already (restartedOf q₀) refl (held-root now) (counters-root (c .op-low) (c .op-high) (c .finite) (k-low now)) (descends-root now i (mindOf h′ b′ n (restartedOf q₀)) l refl refl)
