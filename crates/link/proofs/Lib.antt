@@ -8,3 +8,4 @@ pub mod Checks
 pub mod Minds
 pub mod Moments
 pub mod Seeing
+pub mod Searching
