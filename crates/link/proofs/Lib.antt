@@ -9,3 +9,4 @@ pub mod Minds
 pub mod Moments
 pub mod Seeing
 pub mod Searching
+pub mod Scanning
