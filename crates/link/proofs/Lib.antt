@@ -10,3 +10,4 @@ pub mod Moments
 pub mod Seeing
 pub mod Searching
 pub mod Scanning
+pub mod Flagging

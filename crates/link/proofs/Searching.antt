@@ -129,11 +129,13 @@ module _ {hs : ℕ → Header} {bs : ℕ → List ℕ} {i j n : ℕ} (now : Now 
   -- a value read before, at depth 0
   module _ (at : q .point ≤ 5) (busy : q .operation ≢ 1) (q₀ : Process) (c : CountersBy k q₀) (w : HeldBy k (S j) q₀) (same : q₀ .operation ≡ q .operation)
       (empty : q₀ .depth ≡ 0) (none : q₀ .own ≡ 0) where
-    pub helps-early : {a : ℕ} (v : Pending) → Read (S j) a (wordOf v) → (top : ℕ) → Follows hs bs i j n h b q (helping top q₀ v)
-    helps-early {a} v r top =
-        subst (λ (x : Pending). Follows hs bs i j n h b q (helping top q₀ x)) (pending-word v)
-        (helps-on n now q q₀ b top (y .since) c w (λ z. busy (sym same ∙ z)) (subst (λ (x : ℕ). Stacked k (S j) (stackOf h b n) x) (sym empty) stack-empty) (free none)
-        (λ d e. absurd (omega arith)) r (λ m e. record { next = λ d z. absurd (omega arith) }))
+    pub helps-word : {a v : ℕ} → Read (S j) a v → (top : ℕ) → Follows hs bs i j n h b q (helping top q₀ (pendingOf v))
+    helps-word r top =
+        helps-on n now q q₀ b top (y .since) c w (λ z. busy (sym same ∙ z)) (subst (λ (x : ℕ). Stacked k (S j) (stackOf h b n) x) (sym empty) stack-empty) (free none)
+        (λ d e. absurd (omega arith)) r (λ m e. record { next = λ d z. absurd (omega arith) })
+
+    helps-early : {a : ℕ} (v : Pending) → Read (S j) a (wordOf v) → (top : ℕ) → Follows hs bs i j n h b q (helping top q₀ v)
+    helps-early v r top = subst (λ (x : Pending). Follows hs bs i j n h b q (helping top q₀ x)) (pending-word v) (helps-word r top)
 
   module _ (e₂ : q .point ≡ 2) where
     w₂ : Reads k S i j mind
