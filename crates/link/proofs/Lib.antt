@@ -11,3 +11,4 @@ pub mod Seeing
 pub mod Searching
 pub mod Scanning
 pub mod Flagging
+pub mod Serving
