@@ -12,3 +12,4 @@ pub mod Searching
 pub mod Scanning
 pub mod Flagging
 pub mod Serving
+pub mod Hanging
