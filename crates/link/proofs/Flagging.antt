@@ -33,7 +33,8 @@ use Rattle.points.specs.Rows.{seenGood, kinAt, jobOf, flagging, flagGood, touch
 use Rattle.history.specs.View.{In, infinity, keys}
 use Rattle.history.specs.Shared.{Desc, Shared}
 use Rattle.history.specs.Change.{draw-replace, draw-prune, replace-words, prune-words}
-use Rattle.history.specs.Run.{Step, changes}
+use Rattle.history.specs.Effects.{swaps}
+use Rattle.history.specs.Run.{Step, changes, step-swaps}
 use Rattle.history.proofs.Invariant.{Sound}
 use Rattle.history.proofs.Lasting.{grown}
 use Rattle.history.proofs.Descent.{Read, read-now}
@@ -46,7 +47,7 @@ use Rattle.link.proofs.Draws.{drawnHeader, Drew, drew-prune, drew-repla
 use Rattle.link.proofs.Born.{needs-one, needs-many, born-put, born-take, born-sprout}
 use Rattle.link.proofs.Checks.{both-is, word-names, kin-leaf, node-good, pending-good}
 use Rattle.link.proofs.Minds.{mindOf, Held, HeldBy, CountersBy, held-more}
-use Rattle.link.proofs.Moments.{tables, Now, Busy, no-room, Follows, already, afterwards, answers, Turn, k-low, now-sound, quiet}
+use Rattle.link.proofs.Moments.{tables, Now, Busy, no-room, Follows, already, afterwards, answers, nobody, Turn, k-low, now-sound, quiet}
 use Rattle.link.proofs.Seeing.{counters-help, held-helped}
 use Rattle.link.proofs.Searching.{known, helps-word}
 
@@ -190,6 +191,7 @@ module _ {hs : ℕ → Header} {bs : ℕ → List ℕ} {i j n : ℕ} (now : Now 
           (drew-swap (now .fit) drew) refl (replace-record (now .fit) job count room p-used)))
 
       drawn : Turn hs bs i j n q true (goingOn (toSix (withOwn q (newRecord h)) (newRecord h))) b′
+      unfolding step step-swaps swaps
       drawn = record {
         is-sound = refl;
         h′ = h′;
@@ -198,6 +200,7 @@ module _ {hs : ℕ → Header} {bs : ℕ → List ℕ} {i j n : ℕ} (now : Now 
         processes-same = refl;
         nodes-same = refl;
         step = step;
+        swapper = nobody (λ z. absurd (omega arith)) (λ z. absurd (omega arith)) refl;
         stacks = λ m u d. drew-stack (now .fit) drew m u;
         owners′ = drew-owners job drew (now .owners) (y .place);
         follows =
@@ -221,8 +224,8 @@ module _ {hs : ℕ → Header} {bs : ℕ → List ℕ} {i j n : ℕ} (now : Now 
             (pick s (pick r (goingOn (toSix (withOwn q (newRecord h)) (newRecord h))) (endingOf q (answer 2))) (helping (topOf b h n q) q (pendingOf (seenBy b h (touch4 h q)))))
             (pick (both s r) (replaceDrawn b h job count) b)
         go true e true f = with-sound (drawn (eqb-true _ _ e) (room-is h needs f))
-        go true e false f = quiet now sound (answers (answer 2) refl (no-room not-find refl (y .counters .early-own (omega arith))))
-        go false e r f = quiet now sound (sees 4 e₄ (omega arith) not-find (q .p) p-used (topOf b h n q))
+        go true e false f = quiet now (λ z. absurd (omega arith)) (λ z. absurd (omega arith)) sound (answers (answer 2) refl (no-room not-find refl (y .counters .early-own (omega arith))))
+        go false e r f = quiet now (λ z. absurd (omega arith)) (λ z. absurd (omega arith)) sound (sees 4 e₄ (omega arith) not-find (q .p) p-used (topOf b h n q))
 
   module _ (e₅ : q .point ≡ 5) where
     w₅ : Prunes k S i j mind
@@ -262,6 +265,7 @@ module _ {hs : ℕ → Header} {bs : ℕ → List ℕ} {i j n : ℕ} (now : Now 
           (prune-record (now .fit) job (q .gp) (wordOf (q .pseen)) delete room gp-used)))
 
       drawn₅ : Turn hs bs i j n q true (goingOn (toNine (withOwn q (newRecord h)) (newRecord h))) b₅
+      unfolding step₅ step-swaps swaps
       drawn₅ = record {
         is-sound = refl;
         h′ = h₅;
@@ -270,6 +274,7 @@ module _ {hs : ℕ → Header} {bs : ℕ → List ℕ} {i j n : ℕ} (now : Now 
         processes-same = refl;
         nodes-same = refl;
         step = step₅;
+        swapper = nobody (λ z. absurd (omega arith)) (λ z. absurd (omega arith)) refl;
         stacks = λ m u d. drew-stack (now .fit) drew₅ m u;
         owners′ = drew-owners job drew₅ (now .owners) (y .place);
         follows =
@@ -293,5 +298,5 @@ module _ {hs : ℕ → Header} {bs : ℕ → List ℕ} {i j n : ℕ} (now : Now 
             (pick s (pick r (goingOn (toNine (withOwn q (newRecord h)) (newRecord h))) (endingOf q (answer 2))) (helping (topOf b h n q) q (pendingOf (seenBy b h (touch5 h q)))))
             (pick (both s r) (pruneDrawn b h job (q .gp) (wordOf (q .pseen))) b)
         go true e true f = with-sound (drawn₅ (eqb-true _ _ e) (room-is h 0 f))
-        go true e false f = quiet now sound₅ (answers (answer 2) refl (no-room not-find₅ refl (y .counters .early-own (omega arith))))
-        go false e r f = quiet now sound₅ (sees 5 e₅ (omega arith) not-find₅ (q .gp) gp-used (topOf b h n q))
+        go true e false f = quiet now (λ z. absurd (omega arith)) (λ z. absurd (omega arith)) sound₅ (answers (answer 2) refl (no-room not-find₅ refl (y .counters .early-own (omega arith))))
+        go false e r f = quiet now (λ z. absurd (omega arith)) (λ z. absurd (omega arith)) sound₅ (sees 5 e₅ (omega arith) not-find₅ (q .gp) gp-used (topOf b h n q))

@@ -35,7 +35,7 @@ use Rattle.link.specs.Tables.{viewOf, tablesOf, stackOf}
 use Rattle.link.proofs.Writes.{Fit, Writes, writes-node, writes-tables, child-swap}
 use Rattle.link.proofs.Checks.{both-is, below-good}
 use Rattle.link.proofs.Minds.{mindOf, HeldBy, CountersBy, held-more}
-use Rattle.link.proofs.Moments.{tables, Now, Busy, Follows, already, afterwards, Turn, k-low, now-sound, quiet}
+use Rattle.link.proofs.Moments.{tables, Now, Busy, Follows, already, afterwards, Swapper, at-7, at-13, Turn, k-low, now-sound, quiet}
 use Rattle.link.proofs.Seeing.{counters-help}
 use Rattle.link.proofs.Searching.{known}
 use Rattle.link.proofs.Serving.{serves-stays, written, stacks-node, looks, goes-on}
@@ -95,7 +95,7 @@ module _ {hs : ℕ → Header} {bs : ℕ → List ℕ} {i j n : ℕ} (now : Now 
     pub turn-6 : Turn hs bs i j n q (row6 b h q .sound) (row6 b h q .stepped) (row6 b h q .block)
     unfolding row6
     turn-6 =
-        looks now q y P (recordWord b h r lField) 7 8 (p-used (I .inv) r (w₆ .used)) (I .inv .good r (w₆ .used) .inner) i₆
+        looks now q y P (recordWord b h r lField) 7 8 (λ z. omega arith) (λ z. omega arith) (p-used (I .inv) r (w₆ .used)) (I .inv .good r (w₆ .used) .inner) i₆
         (λ x. already (withPoint q 7) refl (y .held) (counters 6 e₆ (omega arith) w₆ 7 (q .index) (omega arith) (omega arith) (i₆ .high) (i₆ .low) (λ z. omega arith))
         (serving 6 e₆ (omega arith) w₆ b (S j) 7 (q .index) (λ z. omega arith) refl w₆ (l-found hk I r (w₆ .used) (w₆ .helps) i₆ x)))
         (λ x l. already (withIndex q (q .index + 1)) refl (y .held)
@@ -117,7 +117,7 @@ module _ {hs : ℕ → Header} {bs : ℕ → List ℕ} {i j n : ℕ} (now : Now 
     pub turn-12 : Turn hs bs i j n q (row12 b h q .sound) (row12 b h q .stepped) (row12 b h q .block)
     unfolding row12 Marks
     turn-12 =
-        looks now q y T P 13 14 (gp-used (I .inv) r (w₁₂ .used) (w₁₂ .helps .marks .0)) (I .inv .good r (w₁₂ .used) .prune (w₁₂ .helps .marks .0) .gp-inner) i₁₂
+        looks now q y T P 13 14 (λ z. omega arith) (λ z. omega arith) (gp-used (I .inv) r (w₁₂ .used) (w₁₂ .helps .marks .0)) (I .inv .good r (w₁₂ .used) .prune (w₁₂ .helps .marks .0) .gp-inner) i₁₂
         (λ x. already (withPoint q 13) refl (y .held) (counters 12 e₁₂ (omega arith) w₁₂ 13 (q .index) (omega arith) (omega arith) (i₁₂ .high) (i₁₂ .low) (λ z. omega arith))
         (serving 12 e₁₂ (omega arith) w₁₂ b (S j) 13 (q .index) (λ z. omega arith) refl w₁₂ (p-found hk I r (w₁₂ .used) (w₁₂ .helps) i₁₂ x)))
         (λ x l. already (withIndex q (q .index + 1)) refl (y .held)
@@ -149,8 +149,11 @@ module _ {hs : ℕ → Header} {bs : ℕ → List ℕ} {i j n : ℕ} (now : Now 
     hung-stack : (m : ℕ) → In (h .processes) m → stackOf h (hung parent to) m ≡ stackOf h b m
     hung-stack m p = stacks-node now q y parent (childPlace k (q .index)) to u (omega (arith, s)) m p
 
-    hangs : (childWord b h parent (q .index) ≡ from → Step k (S j) (tablesOf h (hung parent to)) × Follows hs bs i j n h (hung parent to) q (goingOn (withPoint q next)))
-        → (childWord b h parent (q .index) ≢ from → Follows hs bs i j n h b q (goingOn (withPoint q next)))
+    hangs : (childWord b h parent (q .index) ≡ from
+        → (c : Step k (S j) (tablesOf h (hung parent to))) × Swapper hs bs j q (tablesOf h (hung parent to)) c × Follows hs bs i j n h (hung parent to) q (goingOn (withPoint q next)))
+        → (childWord b h parent (q .index) ≢ from
+        → (q .point ≡ 7 → childWord b h P (q .index) ≢ recordWord b h r lField) × (q .point ≡ 13 → childWord b h T (q .index) ≢ P)
+        × Follows hs bs i j n h b q (goingOn (withPoint q next)))
         → Turn hs bs i j n q (hangRow b h q parent from to next .sound) (hangRow b h q parent from to next .stepped) (hangRow b h q parent from to next .block)
     unfolding hangRow pick
     hangs yes-then no-then = go (eqb child from) refl
@@ -167,8 +170,8 @@ module _ {hs : ℕ → Header} {bs : ℕ → List ℕ} {i j n : ℕ} (now : Now 
 
         go : (t : Bool) → eqb child from ≡ t → Turn hs bs i j n q (both (childGood b h parent (swapChild h parent (q .index) from to)) (ltb parent to))
             (goingOn (withPoint q next)) (pick t (hung parent to) b)
-        go true x = let v = yes-then (eqb-true child from x) in written now q y hung-writes sound (v .0) (λ m p d. hung-stack m p) (v .1)
-        go false x = quiet now sound (no-then (eqb-false child from x))
+        go true x = let v = yes-then (eqb-true child from x) in written now q y hung-writes sound (v .0) (v .1) (λ m p d. hung-stack m p) (v .2)
+        go false x = let v = no-then (eqb-false child from x) in quiet now (v .0) (v .1) sound (v .2)
 
   module _ (e₇ : q .point ≡ 7) where
     w₇ : Serves k (S j) mind 7
@@ -197,12 +200,12 @@ module _ {hs : ℕ → Header} {bs : ℕ → List ℕ} {i j n : ℕ} (now : Now 
     unfolding row7
     turn-7 =
         hangs P (recordWord b h r lField) T 8 u₇ f₇ i₇ up₇
-        (λ x. (step₇ x, afterwards (withPoint q 8) refl (held-more (grown hk I (step₇ x)) (y .held))
+        (λ x. (step₇ x, at-7 e₇ x (is₇ x), afterwards (withPoint q 8) refl (held-more (grown hk I (step₇ x)) (y .held))
         (counters 7 e₇ (omega arith) w₇ 8 (q .index) (omega arith) (omega arith) (i₇ .high) (i₇ .low) (λ z. omega arith)) (omega arith)
         (serving 7 e₇ (omega arith) w₇ (hung P T) (tablesOf h (hung P T)) 8 (q .index) (λ z. omega arith) (hung-stack P 0 T 0 u₇ f₇ i₇ up₇ n (y .place))
         (serves-stays mind 7 hk I (step₇ x) (omega arith) w₇) (swap-ends hk I (step₇ x) (w₇ .used .low) (is₇ x) (w₇ .helps .kind)))))
-        (λ x. already (withPoint q 8) refl (y .held) (counters 7 e₇ (omega arith) w₇ 8 (q .index) (omega arith) (omega arith) (i₇ .high) (i₇ .low) (λ z. omega arith))
-        (serving 7 e₇ (omega arith) w₇ b (S j) 8 (q .index) (λ z. omega arith) refl w₇ (l-swapped-before hk I r (w₇ .used) (w₇ .helps) x)))
+        (λ x. ((λ z. x), (λ z. absurd (omega arith)), already (withPoint q 8) refl (y .held) (counters 7 e₇ (omega arith) w₇ 8 (q .index) (omega arith) (omega arith) (i₇ .high) (i₇ .low) (λ z. omega arith))
+        (serving 7 e₇ (omega arith) w₇ b (S j) 8 (q .index) (λ z. omega arith) refl w₇ (l-swapped-before hk I r (w₇ .used) (w₇ .helps) x))))
 
   module _ (e₁₃ : q .point ≡ 13) where
     w₁₃ : Serves k (S j) mind 13
@@ -250,9 +253,9 @@ module _ {hs : ℕ → Header} {bs : ℕ → List ℕ} {i j n : ℕ} (now : Now 
     unfolding row13
     turn-13 =
         hangs T P (q .other) 14 u₁₃ f₁₃ i₁₃ up₁₃
-        (λ x. (step₁₃ x, afterwards (withPoint q 14) refl (held-more (grown hk I (step₁₃ x)) (y .held))
+        (λ x. (step₁₃ x, at-13 e₁₃ x (is₁₃ x), afterwards (withPoint q 14) refl (held-more (grown hk I (step₁₃ x)) (y .held))
         (counters 13 e₁₃ (omega arith) w₁₃ 14 (q .index) (omega arith) (omega arith) (i₁₃ .high) (i₁₃ .low) (λ z. omega arith)) (omega arith)
         (serving 13 e₁₃ (omega arith) w₁₃ (hung T (q .other)) (tablesOf h (hung T (q .other))) 14 (q .index) (λ z. omega arith) (hung-stack T 0 (q .other) 0 u₁₃ f₁₃ i₁₃ up₁₃ n (y .place))
         (serves-stays mind 13 hk I (step₁₃ x) (omega arith) w₁₃) (swap-ends hk I (step₁₃ x) (w₁₃ .used .low) (is₁₃ x) kind))))
-        (λ x. already (withPoint q 14) refl (y .held) (counters 13 e₁₃ (omega arith) w₁₃ 14 (q .index) (omega arith) (omega arith) (i₁₃ .high) (i₁₃ .low) (λ z. omega arith))
-        (serving 13 e₁₃ (omega arith) w₁₃ b (S j) 14 (q .index) (λ z. omega arith) refl w₁₃ (p-swapped-before hk I r (w₁₃ .used) (w₁₃ .helps) x)))
+        (λ x. ((λ z. absurd (omega arith)), (λ z. x), already (withPoint q 14) refl (y .held) (counters 13 e₁₃ (omega arith) w₁₃ 14 (q .index) (omega arith) (omega arith) (i₁₃ .high) (i₁₃ .low) (λ z. omega arith))
+        (serving 13 e₁₃ (omega arith) w₁₃ b (S j) 14 (q .index) (λ z. omega arith) refl w₁₃ (p-swapped-before hk I r (w₁₃ .used) (w₁₃ .helps) x))))

@@ -6,7 +6,7 @@ use mathlib.Core.Bool.{Bool, true, false}
 use mathlib.Core.List.{List}
 use native.Mathlib.Omega.{arith}
 use lib.Pow.{pow-pos}
-use Rattle.tables.specs.Layout.{recordWord, processField}
+use Rattle.tables.specs.Layout.{childWord, recordWord, processField}
 use Rattle.tables.specs.declared.header.Header.{Header}
 use Rattle.tables.specs.declared.pending.Pending.{Pending}
 use Rattle.tables.specs.declared.pending.Pending.the-variants.{Clean, Replace, Prune, Mark}
@@ -16,9 +16,10 @@ use Rattle.process.specs.declared.Answer.the-variants.{No, Yes, Full}
 use Rattle.process.specs.declared.Stepped.{Stepped}
 use Rattle.process.specs.Process.{restartedOf}
 use Rattle.process.specs.Answer.{goingOn, endingOf}
+use Rattle.points.specs.Help.{helpedL, helpedP, helpedThird}
 use Rattle.history.specs.View.{In, Holds}
 use Rattle.history.specs.Shared.{Shared, Done}
-use Rattle.history.specs.Run.{Same, Step, rests, Run}
+use Rattle.history.specs.Run.{Same, Step, rests, Run, step-swaps}
 use Rattle.history.proofs.Invariant.{Sound}
 use Rattle.history.proofs.Runs.{sound-at}
 use Rattle.history.proofs.SearchPath.{Moment}
@@ -65,6 +66,14 @@ pub data Follows (hs : ℕ → Header) (bs : ℕ → List ℕ) (i j n : ℕ) (h�
       → Serves (hs j .k) (tablesOf h′ b′) (mindOf h′ b′ n q′) (q′ .point) → Follows hs bs i j n h′ b′ q s
   answers : (a : Answer) → s ≡ endingOf q a → Why (hs j .k) (tables hs bs) i j n q a → Follows hs bs i j n h′ b′ q s
 
+-- whose child swap a step is: of the record helped, at 7 or 13, where the compare holds; else nobody's
+pub data Swapper (hs : ℕ → Header) (bs : ℕ → List ℕ) (j : ℕ) (q : Process) (s′ : Shared) (c : Step (hs j .k) (tables hs bs j) s′) : Type 0 where
+  at-7 : q .point ≡ 7 → childWord (bs j) (hs j) (helpedP (bs j) (hs j) q) (q .index) ≡ helpedL (bs j) (hs j) q → step-swaps (hs j .k) c ≡ q .helped → Swapper hs bs j q s′ c
+  at-13 : q .point ≡ 13 → childWord (bs j) (hs j) (helpedThird (bs j) (hs j) q) (q .index) ≡ helpedP (bs j) (hs j) q → step-swaps (hs j .k) c ≡ q .helped
+      → Swapper hs bs j q s′ c
+  nobody : (q .point ≡ 7 → childWord (bs j) (hs j) (helpedP (bs j) (hs j) q) (q .index) ≢ helpedL (bs j) (hs j) q)
+      → (q .point ≡ 13 → childWord (bs j) (hs j) (helpedThird (bs j) (hs j) q) (q .index) ≢ helpedP (bs j) (hs j) q) → step-swaps (hs j .k) c ≡ 0 → Swapper hs bs j q s′ c
+
 -- what a row gives: it is sound; its block fits a header; the step of the history; nobody else's stack has changed; what follows
 pub record Turn (hs : ℕ → Header) (bs : ℕ → List ℕ) (i j n : ℕ) (q : Process) (sound : Bool) (stepped : Stepped) (b′ : List ℕ) : Type 0 where
   pub is-sound : sound ≡ true
@@ -74,6 +83,7 @@ pub record Turn (hs : ℕ → Header) (bs : ℕ → List ℕ) (i j n : ℕ) (q :
   pub processes-same : h′ .processes ≡ hs j .processes
   pub nodes-same : h′ .nodes ≡ hs j .nodes
   pub step : Step (hs j .k) (tables hs bs j) (tablesOf h′ b′)
+  pub swapper : Swapper hs bs j q (tablesOf h′ b′) step
   pub stacks : (m : ℕ) → In (hs j .processes) m → m ≢ n → stackOf h′ b′ m ≡ stackOf (hs j) (bs j) m
   pub owners′ : (r : ℕ) → In (h′ .recordsused) r → In (h′ .processes) (recordWord b′ h′ r processField)
   pub follows : Follows hs bs i j n h′ b′ q stepped
@@ -89,9 +99,12 @@ module _ {hs : ℕ → Header} {bs : ℕ → List ℕ} {j : ℕ} (now : Now hs b
   pub same-self : Step (hs j .k) (tables hs bs j) (tables hs bs j)
   same-self = rests (tables-same (now .fit) (writes-none 0 (2 * hs j .k)))
 
-  pub quiet : {i n : ℕ} {q : Process} {sound : Bool} {stepped : Stepped} → sound ≡ true → Follows hs bs i j n (hs j) (bs j) q stepped
-      → Turn hs bs i j n q sound stepped (bs j)
-  quiet e f = record {
+  pub quiet : {i n : ℕ} {q : Process} {sound : Bool} {stepped : Stepped}
+      → (q .point ≡ 7 → childWord (bs j) (hs j) (helpedP (bs j) (hs j) q) (q .index) ≢ helpedL (bs j) (hs j) q)
+      → (q .point ≡ 13 → childWord (bs j) (hs j) (helpedThird (bs j) (hs j) q) (q .index) ≢ helpedP (bs j) (hs j) q) → sound ≡ true
+      → Follows hs bs i j n (hs j) (bs j) q stepped → Turn hs bs i j n q sound stepped (bs j)
+  unfolding same-self step-swaps
+  quiet a c e f = record {
     is-sound = e;
     h′ = hs j;
     fit′ = now .fit;
@@ -99,6 +112,7 @@ module _ {hs : ℕ → Header} {bs : ℕ → List ℕ} {j : ℕ} (now : Now hs b
     processes-same = refl;
     nodes-same = refl;
     step = same-self;
+    swapper = nobody a c refl;
     stacks = λ m i d. refl;
     owners′ = now .owners;
     follows = f;

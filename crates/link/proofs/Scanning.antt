@@ -157,4 +157,4 @@ module _ {hs : ℕ → Header} {bs : ℕ → List ℕ} {i j n : ℕ} (now : Now 
   pub turn-3 : Turn hs bs i j n q (row3 b h q .sound) (row3 b h q .stepped) (row3 b h q .block)
   unfolding row3
   turn-3 =
-      quiet now (below-good b h (q .p) child (I .inv .shape .above (q .p) (q .index) (y .held .p-used) (y .held .p-inner) (w .index-in)) used (I .inv .shape .tags child used)) scanned
+      quiet now (λ z. absurd (omega arith)) (λ z. absurd (omega arith)) (below-good b h (q .p) child (I .inv .shape .above (q .p) (q .index) (y .held .p-used) (y .held .p-inner) (w .index-in)) used (I .inv .shape .tags child used)) scanned

@@ -100,7 +100,7 @@ module _ {hs : ℕ → Header} {bs : ℕ → List ℕ} {i j n : ℕ} (now : Now 
 
   pub turn-1 : q .point ≡ 1 → Turn hs bs i j n q (row1 b h q .sound) (row1 b h q .stepped) (row1 b h q .block)
   unfolding row1
-  turn-1 e = quiet now (pending-good b h seen names)
+  turn-1 e = quiet now (λ z. absurd (omega arith)) (λ z. absurd (omega arith)) (pending-good b h seen names)
       (already (withPoint (withPSeen q seen) 2) refl
       (record {
         p-used = y .held .p-used;
@@ -287,7 +287,7 @@ module _ {hs : ℕ → Header} {bs : ℕ → List ℕ} {i j n : ℕ} (now : Now 
             (atChild b h q (kinAt b h child)) b
         kinds kin e s f =
             subst (λ (x : Kin). Turn hs bs i j n q (both (childGood b h (q .p) (touch2 b h q)) (leafGood2 b h q x)) (atChild b h q x) b) (sym e)
-            (quiet now (both-is good s) f)
+            (quiet now (λ z. absurd (omega arith)) (λ z. absurd (omega arith)) (both-is good s) f)
 
         go : Dec (tagWord b h child ≡ k)
             → Turn hs bs i j n q (both (childGood b h (q .p) (touch2 b h q)) (leafGood2 b h q (kinAt b h child)))

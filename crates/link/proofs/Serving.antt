@@ -32,7 +32,7 @@ use Rattle.link.specs.Tables.{tablesOf, stackOf}
 use Rattle.link.proofs.Writes.{Fit, Writes, writes-fit, stack-same, stack-over-node}
 use Rattle.link.proofs.Checks.{below-good}
 use Rattle.link.proofs.Minds.{mindOf, stack-room}
-use Rattle.link.proofs.Moments.{tables, Now, Busy, Follows, Turn, k-low, now-sound, quiet}
+use Rattle.link.proofs.Moments.{tables, Now, Busy, Follows, Swapper, Turn, k-low, now-sound, quiet}
 
 -- two moments
 two : Shared → Shared → ℕ → Shared
@@ -66,9 +66,9 @@ module _ {hs : ℕ → Header} {bs : ℕ → List ℕ} {i j n : ℕ} (now : Now 
   I = now-sound now
 
   -- the header and the records are as they were
-  pub written : {b′ : List ℕ} {a off : ℕ} {sound : Bool} {stepped : Stepped} → Writes h b b′ a off → sound ≡ true → Step k (S j) (tablesOf h b′)
+  pub written : {b′ : List ℕ} {a off : ℕ} {sound : Bool} {stepped : Stepped} → Writes h b b′ a off → sound ≡ true → (c : Step k (S j) (tablesOf h b′)) → Swapper hs bs j q (tablesOf h b′) c
       → ((m : ℕ) → In (h .processes) m → m ≢ n → stackOf h b′ m ≡ stackOf h b m) → Follows hs bs i j n h b′ q stepped → Turn hs bs i j n q sound stepped b′
-  written {b′} w e step stacks f = record {
+  written {b′} w e step swapper stacks f = record {
     is-sound = e;
     h′ = h;
     fit′ = writes-fit (now .fit) w;
@@ -76,6 +76,7 @@ module _ {hs : ℕ → Header} {bs : ℕ → List ℕ} {i j n : ℕ} (now : Now 
     processes-same = refl;
     nodes-same = refl;
     step = step;
+    swapper = swapper;
     stacks = stacks;
     owners′ =
         λ r u. rw (w .rec r processField (record { from-one = u .low; to-last = omega (arith, u .high, now .fit .limits .drawn-high); within = omega arith })) (now .owners r u);
@@ -92,14 +93,14 @@ module _ {hs : ℕ → Header} {bs : ℕ → List ℕ} {i j n : ℕ} (now : Now 
       (λ d g. stack-over-node h b m d (record { from-one = p .low; to-last = p .high; within = g }) a off v (in-node a off u l))
 
   -- 6, 12: one child looked at
-  pub looks : (parent target found missed : ℕ) → In (h .nodesused) parent → tagWord b h parent ≡ k → In k (q .index)
+  pub looks : (parent target found missed : ℕ) → q .point ≢ 7 → q .point ≢ 13 → In (h .nodesused) parent → tagWord b h parent ≡ k → In k (q .index)
       → (childWord b h parent (q .index) ≡ target → Follows hs bs i j n h b q (goingOn (withPoint q found)))
       → (childWord b h parent (q .index) ≢ target → q .index < k → Follows hs bs i j n h b q (goingOn (withIndex q (q .index + 1))))
       → (childWord b h parent (q .index) ≢ target → q .index ≡ k → Follows hs bs i j n h b q (goingOn (withPoint q missed)))
       → Turn hs bs i j n q (lookRow b h q parent target found missed .sound) (lookRow b h q parent target found missed .stepped) (lookRow b h q parent target found missed .block)
   unfolding lookRow pick
-  looks parent target found missed u e s f g m =
-      quiet now (below-good b h parent child (I .inv .shape .above parent (q .index) u e s) c-used (I .inv .shape .tags child c-used))
+  looks parent target found missed n₇ n₁₃ u e s f g m =
+      quiet now (λ z. absurd (n₇ z)) (λ z. absurd (n₁₃ z)) (below-good b h parent child (I .inv .shape .above parent (q .index) u e s) c-used (I .inv .shape .tags child c-used))
       (go (eqb child target) refl (ltb (q .index) k) refl)
     where
       child : ℕ
