@@ -13,3 +13,4 @@ pub mod Scanning
 pub mod Flagging
 pub mod Serving
 pub mod Hanging
+pub mod Ending
