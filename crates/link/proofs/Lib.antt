@@ -14,3 +14,4 @@ pub mod Flagging
 pub mod Serving
 pub mod Hanging
 pub mod Ending
+pub mod Marking
