@@ -15,3 +15,4 @@ pub mod Serving
 pub mod Hanging
 pub mod Ending
 pub mod Marking
+pub mod Stepping
