@@ -16,3 +16,4 @@ pub mod Hanging
 pub mod Ending
 pub mod Marking
 pub mod Stepping
+pub mod Carry
