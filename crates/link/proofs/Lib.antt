@@ -17,3 +17,4 @@ pub mod Ending
 pub mod Marking
 pub mod Stepping
 pub mod Carry
+pub mod Calls
