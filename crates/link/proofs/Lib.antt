@@ -18,3 +18,4 @@ pub mod Marking
 pub mod Stepping
 pub mod Carry
 pub mod Calls
+pub mod Reached
