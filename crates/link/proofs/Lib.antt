@@ -19,3 +19,4 @@ pub mod Stepping
 pub mod Carry
 pub mod Calls
 pub mod Reached
+pub mod Beginning

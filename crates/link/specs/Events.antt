@@ -7,6 +7,7 @@ use lib.ListN.{length, getD, set}
 use Rattle.tables.specs.Choice.{pick, both}
 use Rattle.tables.specs.Numbers.{infinity}
 use Rattle.tables.specs.Header.{headerOf}
+use Rattle.tables.specs.Fresh.{freshHeader, freshBlock, freshRow, overFront}
 use Rattle.tables.specs.declared.header.Header.{Header}
 use Rattle.process.specs.declared.Process.{Process}
 use Rattle.process.specs.Process.{idle}
@@ -76,3 +77,10 @@ starts s (step m) n = false
 unfoldable pub sinceAt : State → List Event → ℕ → ℕ → ℕ
 sinceAt s es n zero = 0
 sinceAt s es n (suc m) = pick (starts (stateAt s es m) (eventAt es m) n) (suc m) (sinceAt s es n m)
+
+-- what making leaves: the fresh tree over the front of the block, all process records idle over the front of the row
+abbrev pub freshState : ℕ → ℕ → ℕ → ℕ → List ℕ → List Process → State
+freshState k processes nodes records b row = record {
+  block = overFront (freshBlock (freshHeader k processes nodes records)) b;
+  row = overFront (freshRow idle (freshHeader k processes nodes records)) row;
+}
