@@ -56,7 +56,7 @@ module _ (s : State) (fit : Fit (headerOf (s .block)) (s .block)) (rows : header
 
   -- how a step goes
   pub data Step (n : ℕ) : Type 0 where
-    unknown : stepIn s n ≡ stepRefused b (taken s n) 4 → Step n
+    unknown : ¬ In (h .processes) n → stepIn s n ≡ stepRefused b (taken s n) 4 → Step n
     rests : In (h .processes) n → taken s n .operation ≡ 0 → stepIn s n ≡ stepRefused b (taken s n) 8 → Step n
     works : In (h .processes) n → taken s n .operation ≢ 0 → (soundStep b h n (taken s n) ≡ true → stepIn s n ≡ stepDone b h n (taken s n)) → Step n
 
@@ -67,8 +67,11 @@ module _ (s : State) (fit : Fit (headerOf (s .block)) (s .block)) (rows : header
       place : within 1 n (h .processes) ≡ true → In (h .processes) n
       place e = record { low = within-low 1 n (h .processes) e; high = within-high 1 n (h .processes) e }
 
+      outside : within 1 n (h .processes) ≡ false → In (h .processes) n → ⊥
+      outside e u = let z : true ≡ false = sym (within-is 1 n (h .processes) (u .low) (u .high)) ∙ e in let v : _≡_ {A = ℕ} 0 1 = cc in omega arith
+
       go : (t : Bool) → within 1 n (h .processes) ≡ t → Dec (taken s n .operation ≡ 0) → Step n
-      go false e d = unknown (rw (t₁, t₂, t₃, t₄, e) refl)
+      go false e d = unknown (λ u. outside e u) (rw (t₁, t₂, t₃, t₄, e) refl)
       go true e (yes z) = rests (place e) z (rw (t₁, t₂, t₃, t₄, e, eq-eqb (taken s n .operation) 0 z) refl)
       go true e (no z) = works (place e) z (λ x. rw (t₁, t₂, t₃, t₄, e, ne-eqb (taken s n .operation) 0 z, x) refl)
 

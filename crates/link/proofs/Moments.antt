@@ -99,6 +99,10 @@ module _ {hs : ℕ → Header} {bs : ℕ → List ℕ} {j : ℕ} (now : Now hs b
   pub same-self : Step (hs j .k) (tables hs bs j) (tables hs bs j)
   same-self = rests (tables-same (now .fit) (writes-none 0 (2 * hs j .k)))
 
+  pub same-none : step-swaps (hs j .k) same-self ≡ 0
+  unfolding same-self step-swaps
+  same-none = refl
+
   pub quiet : {i n : ℕ} {q : Process} {sound : Bool} {stepped : Stepped}
       → (q .point ≡ 7 → childWord (bs j) (hs j) (helpedP (bs j) (hs j) q) (q .index) ≢ helpedL (bs j) (hs j) q)
       → (q .point ≡ 13 → childWord (bs j) (hs j) (helpedThird (bs j) (hs j) q) (q .index) ≢ helpedP (bs j) (hs j) q) → sound ≡ true

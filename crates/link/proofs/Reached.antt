@@ -12,6 +12,7 @@ use lib.Seq.{set-getD, getD-set-same, getD-set-other}
 use borrow.Author.Tests.{eq-eqb, ne-eqb}
 use Rattle.tables.specs.Choice.{pick, both}
 use Rattle.tables.specs.Numbers.{infinity}
+use Rattle.tables.specs.Layout.{childWord}
 use Rattle.tables.specs.Header.{headerOf}
 use Rattle.tables.specs.declared.header.Header.{Header}
 use Rattle.process.specs.declared.Process.{Process}
@@ -22,12 +23,16 @@ use Rattle.points.specs.Rows.{rowOf}
 use Rattle.points.specs.Step.{stepDone, stepRefused, started, startRefused}
 use Rattle.points.specs.declared.start.StartAnswer.the-variants.{Accepted}
 use Rattle.points.specs.declared.start.Started.{Started}
+use Rattle.points.specs.Help.{helpedL, helpedP, helpedThird}
 use Rattle.history.specs.View.{In}
+use Rattle.history.specs.Run.{Step, step-swaps}
 use Rattle.link.specs.Tables.{tablesOf}
 use Rattle.link.specs.Events.{Event, start, step, State, taken, startIn, stepIn, putBack, after, eventAt, stateAt, blockAt, headerAt, Proper, isAccepted, starts, sinceAt}
+use Rattle.link.specs.Swaps.{Swapping, seven, thirteen, ChildSwap}
 use Rattle.link.proofs.Checks.{both-is}
 use Rattle.link.proofs.Minds.{mindOf}
-use Rattle.link.proofs.Moments.{tables, Now, Busy, Turn, k-low, now-sound, held-root, descends-root, counters-root}
+use Rattle.link.proofs.Moments.{tables, Now, Busy, Swapper, at-7, at-13, nobody, Turn, same-self, same-none, k-low, now-sound, held-root, descends-root, counters-root}
+use Rattle.link.proofs.Searching.{known}
 use Rattle.link.proofs.Stepping.{turn, step-sound}
 use Rattle.link.proofs.Carry.{Shift, turn-shift, shift-self, shift-to, follows-to, now-next, place-back, busy-next, busy-own}
 use Rattle.link.proofs.Calls as calls
@@ -222,7 +227,7 @@ module _ {s : State} {es : List Event} {m : ℕ} (good : Good s es m) where
       busy u d (works y) = y
 
       go : calls.Step (W m) (good .now .fit) (good .rows) n → Good s es (suc m)
-      go (calls.unknown e) = refused 4 e
+      go (calls.unknown d e) = refused 4 e
       go (calls.rests u d e) = refused 8 e
       go (calls.works u d f) = let y = busy u d (good .each n u) in steps n u z y (f (step-sound (good .now) (taken (W m) n) y))
   go-on (start n operation key) z x = go (calls.start-goes (W m) (good .now .fit) (good .rows) n operation key)
@@ -235,6 +240,110 @@ module _ {s : State} {es : List Event} {m : ℕ} (good : Good s es m) where
 
   pub good-next : Proper (eventAt es m) → Good s es (suc m)
   good-next x = go-on (eventAt es m) refl x
+
+-- whose child swap the step from moment m is, in the words of the events
+pub data Kind (s : State) (es : List Event) (m : ℕ) (c : Step (headerAt s es m .k) (tables (headerAt s es) (blockAt s es) m) (tables (headerAt s es) (blockAt s es) (suc m))) : Type 0 where
+  no-swap : step-swaps (headerAt s es m .k) c ≡ 0 → ((r : ℕ) → ¬ ChildSwap s es m r) → Kind s es m c
+  swap-of : (r : ℕ) → 1 ≤ r → ChildSwap s es m r → step-swaps (headerAt s es m .k) c ≡ r → Kind s es m c
+
+-- an event as a step of the history
+pub record Move (s : State) (es : List Event) (m : ℕ) : Type 0 where
+  pub k-same : headerAt s es (suc m) .k ≡ headerAt s es m .k
+  pub processes-same : headerAt s es (suc m) .processes ≡ headerAt s es m .processes
+  pub step : Step (headerAt s es m .k) (tables (headerAt s es) (blockAt s es) m) (tables (headerAt s es) (blockAt s es) (suc m))
+  pub kind : Kind s es m step
+
+step-one : (n p : ℕ) → step n ≡ step p → n ≡ p
+step-one n p e = cc
+
+start-step : (n operation key p : ℕ) → start n operation key ≡ step p → ⊥
+start-step n operation key p e = let z : _≡_ {A = ℕ} 0 1 = cc in omega arith
+
+module _ {s : State} {es : List Event} {m : ℕ} (good : Good s es m) where
+  abbrev hs₁ : ℕ → Header
+  hs₁ = headerAt s es
+
+  abbrev bs₁ : ℕ → List ℕ
+  bs₁ = blockAt s es
+
+  abbrev W₁ : ℕ → State
+  W₁ = stateAt s es
+
+  -- nothing is written
+  rested : bs₁ (suc m) ≡ bs₁ m → ((r : ℕ) → ¬ ChildSwap s es m r) → Move s es m
+  rested e f = put (subst (λ (c : List ℕ). (x : Step (hs₁ m .k) (tables hs₁ bs₁ m) (tablesOf (headerOf c) c)) × (step-swaps (hs₁ m .k) x ≡ 0)) (sym e) (same-self (good .now), none))
+    where
+      none : step-swaps (hs₁ m .k) (same-self (good .now)) ≡ 0
+      none = same-none (good .now)
+
+      put : (x : Step (hs₁ m .k) (tables hs₁ bs₁ m) (tables hs₁ bs₁ (suc m))) × (step-swaps (hs₁ m .k) x ≡ 0) → Move s es m
+      put x = record {
+        k-same = ap (λ (c : List ℕ). headerOf c .k) e;
+        processes-same = ap (λ (c : List ℕ). headerOf c .processes) e;
+        step = x .0;
+        kind = no-swap (x .1) f;
+      }
+
+  module _ (n : ℕ) (u : In (hs₁ m .processes) n) (d : taken (W₁ m) n .operation ≢ 0) (z : eventAt es m ≡ step n)
+      (y : Busy hs₁ bs₁ (sinceAt s es n m) m n (taken (W₁ m) n)) (e : stepIn (W₁ m) n ≡ stepDone (bs₁ m) (hs₁ m) n (taken (W₁ m) n)) where
+    abbrev q₁ : Process
+    q₁ = taken (W₁ m) n
+
+    both-parts : (c : Step (hs₁ m .k) (tables hs₁ bs₁ m) (tables hs₁ bs₁ (suc m))) × Swapper hs₁ bs₁ m q₁ (tables hs₁ bs₁ (suc m)) c
+    both-parts =
+        subst (λ (x : List ℕ). (c : Step (hs₁ m .k) (tables hs₁ bs₁ m) (tablesOf (hs₁ (suc m)) x)) × Swapper hs₁ bs₁ m q₁ (tablesOf (hs₁ (suc m)) x) c) (sym (block-is good n u z y e))
+        (subst (λ (g : Header). (c : Step (hs₁ m .k) (tables hs₁ bs₁ m) (tablesOf g (rowOf (bs₁ m) (hs₁ m) n q₁ .block)))
+        × Swapper hs₁ bs₁ m q₁ (tablesOf g (rowOf (bs₁ m) (hs₁ m) n q₁ .block)) c) (sym (header-is good n u z y e))
+        (its-turn good n u z y e .step, its-turn good n u z y e .swapper))
+
+    swaps-by : Swapping (bs₁ m) (hs₁ m) q₁ → ChildSwap s es m (q₁ .helped)
+    swaps-by w = record { process = n; event = z; exists = u; busy = d; helps = refl; swapping = w }
+
+    moved : Move s es m
+    moved = record {
+      k-same = its-shift good n u z y e .k-same;
+      processes-same = its-shift good n u z y e .processes-same;
+      step = both-parts .0;
+      kind = go (both-parts .1);
+    }
+      where
+        nobody-swaps : (q₁ .point ≡ 7 → childWord (bs₁ m) (hs₁ m) (helpedP (bs₁ m) (hs₁ m) q₁) (q₁ .index) ≢ helpedL (bs₁ m) (hs₁ m) q₁)
+            → (q₁ .point ≡ 13 → childWord (bs₁ m) (hs₁ m) (helpedThird (bs₁ m) (hs₁ m) q₁) (q₁ .index) ≢ helpedP (bs₁ m) (hs₁ m) q₁)
+            → (r : ℕ) → ¬ ChildSwap s es m r
+        nobody-swaps a c r w =
+            no (subst (λ (p : ℕ). Swapping (bs₁ m) (hs₁ m) (taken (W₁ m) p)) (sym (step-one n (w .process) (sym z ∙ w .event))) (w .swapping))
+          where
+            no : Swapping (bs₁ m) (hs₁ m) q₁ → ⊥
+            no (seven p x) = a p x
+            no (thirteen p x) = c p x
+
+        go : Swapper hs₁ bs₁ m q₁ (tables hs₁ bs₁ (suc m)) (both-parts .0) → Kind s es m (both-parts .0)
+        go (at-7 p x v) = swap-of (q₁ .helped) (known (good .now) q₁ y 7 p .used .low) (swaps-by (seven p x)) v
+        go (at-13 p x v) = swap-of (q₁ .helped) (known (good .now) q₁ y 13 p .used .low) (swaps-by (thirteen p x)) v
+        go (nobody a c v) = no-swap v (nobody-swaps a c)
+
+  move-by : (e : Event) → eventAt es m ≡ e → Move s es m
+  move-by (step n) z = go (calls.step-goes (W₁ m) (good .now .fit) (good .rows) n)
+    where
+      same : (r : ℕ) → stepIn (W₁ m) n ≡ stepRefused (bs₁ m) (taken (W₁ m) n) r → bs₁ (suc m) ≡ bs₁ m
+      same r e = ap (λ (x : State). x .block) (state-next s es m (step n) z) ∙ ap (λ (o : Out). o .block) e
+
+      here : (r : ℕ) (w : ChildSwap s es m r) → w .process ≡ n
+      here r w = step-one (w .process) n (sym (w .event) ∙ z)
+
+      busy : taken (W₁ m) n .operation ≢ 0 → Doing s es m n → Busy hs₁ bs₁ (sinceAt s es n m) m n (taken (W₁ m) n)
+      busy d (idles e) = absurd (d e)
+      busy d (works y) = y
+
+      go : calls.Step (W₁ m) (good .now .fit) (good .rows) n → Move s es m
+      go (calls.unknown d e) = rested (same 4 e) (λ r w. d (subst (λ (p : ℕ). In (hs₁ m .processes) p) (here r w) (w .exists)))
+      go (calls.rests u d e) = rested (same 8 e) (λ r w. subst (λ (p : ℕ). taken (W₁ m) p .operation ≢ 0) (here r w) (w .busy) d)
+      go (calls.works u d f) = let y = busy d (good .each n u) in moved n u d z y (f (step-sound (good .now) (taken (W₁ m) n) y))
+  move-by (start n operation key) z =
+      rested (ap (λ (x : State). x .block) (state-next s es m (start n operation key) z)) (λ r w. start-step n operation key (w .process) (sym z ∙ w .event))
+
+  pub move : Move s es m
+  move = move-by (eventAt es m) refl
 
 -- every moment
 pub good-always : {s : State} {es : List Event} → Good s es 0 → ((m : ℕ) → Proper (eventAt es m)) → (m : ℕ) → Good s es m
