@@ -20,3 +20,4 @@ pub mod Carry
 pub mod Calls
 pub mod Reached
 pub mod Beginning
+pub mod Clauses
