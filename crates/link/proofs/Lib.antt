@@ -21,3 +21,4 @@ pub mod Calls
 pub mod Reached
 pub mod Beginning
 pub mod Clauses
+pub mod Keeps
