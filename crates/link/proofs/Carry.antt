@@ -34,6 +34,7 @@ pub record Shift (hs : ℕ → Header) (bs : ℕ → List ℕ) (j n : ℕ) (h′
   pub step : Step (hs j .k) (tables hs bs j) (tablesOf h′ b′)
   pub stacks : (m : ℕ) → In (hs j .processes) m → m ≢ n → stackOf h′ b′ m ≡ stackOf (hs j) (bs j) m
   pub owners′ : (r : ℕ) → In (h′ .recordsused) r → In (h′ .processes) (recordWord b′ h′ r processField)
+  pub drawn-by : (r : ℕ) → hs j .recordsused < r → r ≤ h′ .recordsused → recordWord b′ h′ r processField ≡ n
 
 pub turn-shift : {hs : ℕ → Header} {bs : ℕ → List ℕ} {i j n : ℕ} {q : Process} {sound : Bool} {stepped : Stepped} {b′ : List ℕ} (t : Turn hs bs i j n q sound stepped b′)
     → Shift hs bs j n (t .h′) b′
@@ -44,6 +45,7 @@ turn-shift t = record {
   step = t .step;
   stacks = t .stacks;
   owners′ = t .owners′;
+  drawn-by = λ r a c. t .drawn-by r a c .0;
 }
 
 pub shift-self : {hs : ℕ → Header} {bs : ℕ → List ℕ} {j : ℕ} (n : ℕ) → Now hs bs j → Shift hs bs j n (hs j) (bs j)
@@ -54,6 +56,7 @@ shift-self n now = record {
   step = same-self now;
   stacks = λ m i d. refl;
   owners′ = now .owners;
+  drawn-by = λ r a c. absurd (omega arith);
 }
 
 module _ {hs : ℕ → Header} {bs : ℕ → List ℕ} {j : ℕ} {h′ : Header} {b′ : List ℕ} (eh : hs (suc j) ≡ h′) (eb : bs (suc j) ≡ b′) where

@@ -203,6 +203,7 @@ module _ {hs : ℕ → Header} {bs : ℕ → List ℕ} {i j n : ℕ} (now : Now 
         swapper = nobody (λ z. absurd (omega arith)) (λ z. absurd (omega arith)) refl;
         stacks = λ m u d. drew-stack (now .fit) drew m u;
         owners′ = drew-owners job drew (now .owners) (y .place);
+        drawn-by = λ m a c. (let z : m ≡ newRecord h = omega arith in (subst (λ (x : ℕ). recordWord b′ h x processField ≡ n) (sym z) (drew .new processField (omega arith)), sym z));
         follows =
             afterwards (toSix (withOwn q (newRecord h)) (newRecord h)) refl
             (held-own (newRecord h) (omega arith) (held-more (grown (k-low now) I step) (y .held)))
@@ -277,6 +278,7 @@ module _ {hs : ℕ → Header} {bs : ℕ → List ℕ} {i j n : ℕ} (now : Now 
         swapper = nobody (λ z. absurd (omega arith)) (λ z. absurd (omega arith)) refl;
         stacks = λ m u d. drew-stack (now .fit) drew₅ m u;
         owners′ = drew-owners job drew₅ (now .owners) (y .place);
+        drawn-by = λ m a c. (let z : m ≡ newRecord h = omega arith in (subst (λ (x : ℕ). recordWord b₅ h x processField ≡ n) (sym z) (drew₅ .new processField (omega arith)), sym z));
         follows =
             afterwards (toNine (withOwn q (newRecord h)) (newRecord h)) refl
             (held-own (newRecord h) (omega arith) (held-more (grown (k-low now) I step₅) (y .held)))

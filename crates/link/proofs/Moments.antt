@@ -86,6 +86,7 @@ pub record Turn (hs : ℕ → Header) (bs : ℕ → List ℕ) (i j n : ℕ) (q :
   pub swapper : Swapper hs bs j q (tablesOf h′ b′) step
   pub stacks : (m : ℕ) → In (hs j .processes) m → m ≢ n → stackOf h′ b′ m ≡ stackOf (hs j) (bs j) m
   pub owners′ : (r : ℕ) → In (h′ .recordsused) r → In (h′ .processes) (recordWord b′ h′ r processField)
+  pub drawn-by : (r : ℕ) → hs j .recordsused < r → r ≤ h′ .recordsused → (recordWord b′ h′ r processField ≡ n) × (stepped .process .own ≡ r)
   pub follows : Follows hs bs i j n h′ b′ q stepped
 
 module _ {hs : ℕ → Header} {bs : ℕ → List ℕ} {j : ℕ} (now : Now hs bs j) where
@@ -119,6 +120,7 @@ module _ {hs : ℕ → Header} {bs : ℕ → List ℕ} {j : ℕ} (now : Now hs b
     swapper = nobody a c refl;
     stacks = λ m i d. refl;
     owners′ = now .owners;
+    drawn-by = λ r a c. absurd (omega arith);
     follows = f;
   }
 

@@ -48,16 +48,16 @@ pub record Good (s : State) (es : List Event) (m : ℕ) : Type 0 where
   pub rows : headerAt s es m .processes ≤ length (stateAt s es m .row)
   pub each : (n : ℕ) → In (headerAt s es m .processes) n → Doing s es m n
 
-state-next : (s : State) (es : List Event) (m : ℕ) (e : Event) → eventAt es m ≡ e → stateAt s es (suc m) ≡ after (stateAt s es m) e
+pub state-next : (s : State) (es : List Event) (m : ℕ) (e : Event) → eventAt es m ≡ e → stateAt s es (suc m) ≡ after (stateAt s es m) e
 unfolding stateAt
 state-next s es m e z = ap (after (stateAt s es m)) z
 
-since-next : (s : State) (es : List Event) (m n : ℕ) (e : Event) (t : Bool) → eventAt es m ≡ e → starts (stateAt s es m) e n ≡ t
+pub since-next : (s : State) (es : List Event) (m n : ℕ) (e : Event) (t : Bool) → eventAt es m ≡ e → starts (stateAt s es m) e n ≡ t
     → sinceAt s es n (suc m) ≡ pick t (suc m) (sinceAt s es n m)
 unfolding sinceAt
 since-next s es m n e t z f = ap (λ (u : Bool). pick u (suc m) (sinceAt s es n m)) (ap (λ (x : Event). starts (stateAt s es m) x n) z ∙ f)
 
-since-stays : (s : State) (es : List Event) (m n : ℕ) (e : Event) → eventAt es m ≡ e → starts (stateAt s es m) e n ≡ false → sinceAt s es n (suc m) ≡ sinceAt s es n m
+pub since-stays : (s : State) (es : List Event) (m n : ℕ) (e : Event) → eventAt es m ≡ e → starts (stateAt s es m) e n ≡ false → sinceAt s es n (suc m) ≡ sinceAt s es n m
 unfolding pick
 since-stays s es m n e z f = since-next s es m n e false z f
 
@@ -97,10 +97,10 @@ module _ {s : State} {es : List Event} {m : ℕ} (good : Good s es m) where
 
   -- the row with one record put back
   module _ (n : ℕ) (b′ : List ℕ) (q′ : Process) (e : W (suc m) ≡ putBack (W m) b′ n q′) (u : In (hs m .processes) n) where
-    taken-own : taken (W (suc m)) n ≡ q′
+    pub taken-own : taken (W (suc m)) n ≡ q′
     taken-own = ap (λ (x : State). taken x n) e ∙ getD-set-same (W m .row) (n - 1) q′ idle (omega (arith, u, good .rows))
 
-    taken-other : (p : ℕ) → 1 ≤ p → p ≢ n → taken (W (suc m)) p ≡ taken (W m) p
+    pub taken-other : (p : ℕ) → 1 ≤ p → p ≢ n → taken (W (suc m)) p ≡ taken (W m) p
     taken-other p l d = ap (λ (x : State). taken x p) e ∙ getD-set-other (W m .row) (n - 1) (p - 1) q′ idle (λ z. d (omega (arith, u)))
 
     rows-next : hs (suc m) .processes ≡ hs m .processes → hs (suc m) .processes ≤ length (W (suc m) .row)
@@ -120,13 +120,13 @@ module _ {s : State} {es : List Event} {m : ℕ} (good : Good s es m) where
     pub its-turn : Turn hs bs (sinceAt s es n m) m n q (rowOf (bs m) (hs m) n q .sound) (rowOf (bs m) (hs m) n q .stepped) (rowOf (bs m) (hs m) n q .block)
     its-turn = turn (good .now) q y
 
-    state-is : W (suc m) ≡ putBack (W m) (rowOf (bs m) (hs m) n q .block) n (stepped .process)
+    pub state-is : W (suc m) ≡ putBack (W m) (rowOf (bs m) (hs m) n q .block) n (stepped .process)
     state-is = state-next s es m (step n) z ∙ ap (λ (o : Out). putBack (W m) (o .block) n (o .stepped .process)) e
 
-    block-is : bs (suc m) ≡ rowOf (bs m) (hs m) n q .block
+    pub block-is : bs (suc m) ≡ rowOf (bs m) (hs m) n q .block
     block-is = ap (λ (x : State). x .block) state-is
 
-    header-is : hs (suc m) ≡ its-turn .h′
+    pub header-is : hs (suc m) ≡ its-turn .h′
     header-is = ap headerOf block-is ∙ its-turn .fit′ .header
 
     pub its-shift : Shift hs bs m n (hs (suc m)) (bs (suc m))
@@ -161,10 +161,10 @@ module _ {s : State} {es : List Event} {m : ℕ} (good : Good s es m) where
   -- a start that is accepted
   module _ (n operation key : ℕ) (u : In (hs m .processes) n) (z : eventAt es m ≡ start n operation key) (low : 1 ≤ operation) (high : operation ≤ 3) (fin : key < 4294967295)
       (e : startIn (W m) n operation key ≡ started Accepted (startedAs operation key)) where
-    begun : W (suc m) ≡ putBack (W m) (bs m) n (startedAs operation key)
+    pub begun : W (suc m) ≡ putBack (W m) (bs m) n (startedAs operation key)
     begun = state-next s es m (start n operation key) z ∙ ap (λ (o : Started). putBack (W m) (bs m) n (o .process)) e
 
-    same-shift : Shift hs bs m n (hs (suc m)) (bs (suc m))
+    pub same-shift : Shift hs bs m n (hs (suc m)) (bs (suc m))
     same-shift =
         shift-to {hs = hs} {bs = bs} {j = m} {h′ = hs m} {b′ = bs m} (ap (λ (x : State). headerOf (x .block)) begun) (ap (λ (x : State). x .block) begun) (shift-self n (good .now))
 
@@ -212,7 +212,7 @@ module _ {s : State} {es : List Event} {m : ℕ} (good : Good s es m) where
             no-both t = refl
 
   -- the record put back as it was
-  same-state : (n : ℕ) → putBack (W m) (bs m) n (taken (W m) n) ≡ W m
+  pub same-state : (n : ℕ) → putBack (W m) (bs m) n (taken (W m) n) ≡ W m
   same-state n = ap (λ (x : List Process). record { block = bs m; row = x }) (set-getD (W m .row) (n - 1) idle)
 
   go-on : (e : Event) → eventAt es m ≡ e → Proper e → Good s es (suc m)

@@ -80,6 +80,7 @@ module _ {hs : ℕ → Header} {bs : ℕ → List ℕ} {i j n : ℕ} (now : Now 
     stacks = stacks;
     owners′ =
         λ r u. rw (w .rec r processField (record { from-one = u .low; to-last = omega (arith, u .high, now .fit .limits .drawn-high); within = omega arith })) (now .owners r u);
+    drawn-by = λ r a c. absurd (omega arith);
     follows = f;
   }
 

@@ -1,8 +1,8 @@
 -- Events: starts and steps of the processes of a row over one block, and the state at each moment of a list of them.
-use Prim.Native.Nat.{ℕ, zero, suc, _-_, _≤_}
+use Prim.Native.Nat.{ℕ, zero, suc, _+_, _-_, _≤_}
 use mathlib.Core.Bool.{Bool, true, false}
 use mathlib.Core.List.{List}
-use lib.Dec.{eqb}
+use lib.Dec.{ltb, eqb}
 use lib.ListN.{length, getD, set}
 use Rattle.tables.specs.Choice.{pick, both}
 use Rattle.tables.specs.Numbers.{infinity}
@@ -10,6 +10,8 @@ use Rattle.tables.specs.Header.{headerOf}
 use Rattle.tables.specs.Fresh.{freshHeader, freshBlock, freshRow, overFront}
 use Rattle.tables.specs.declared.header.Header.{Header}
 use Rattle.process.specs.declared.Process.{Process}
+use Rattle.process.specs.declared.StepAnswer.{StepAnswer}
+use Rattle.process.specs.declared.StepAnswer.the-variants.{GoesOn, Ended, Refused as StepRefused}
 use Rattle.process.specs.Process.{idle}
 use Rattle.points.specs.Touch.{Out}
 use Rattle.points.specs.Step.{startOf, stepOf}
@@ -77,6 +79,27 @@ starts s (step m) n = false
 unfoldable pub sinceAt : State → List Event → ℕ → ℕ → ℕ
 sinceAt s es n zero = 0
 sinceAt s es n (suc m) = pick (starts (stateAt s es m) (eventAt es m) n) (suc m) (sinceAt s es n m)
+
+-- the event is an accepted step of process n: it goes on, or gives an answer
+abbrev pub isAnswered : StepAnswer → Bool
+isAnswered GoesOn = true
+isAnswered (Ended a steps) = true
+isAnswered (StepRefused e) = false
+
+abbrev pub steppedBy : State → Event → ℕ → Bool
+steppedBy s (start m operation key) n = false
+steppedBy s (step m) n = both (eqb m n) (isAnswered (stepIn s m .stepped .answer))
+
+-- the accepted steps of process n since its last accepted start
+unfoldable pub stepsAt : State → List Event → ℕ → ℕ → ℕ
+stepsAt s es n zero = 0
+stepsAt s es n (suc m) =
+    pick (starts (stateAt s es m) (eventAt es m) n) 0
+    (pick (steppedBy (stateAt s es m) (eventAt es m) n) (stepsAt s es n m + 1) (stepsAt s es n m))
+
+-- "which stays at 4,294,967,295 once there"
+abbrev pub capped : ℕ → ℕ
+capped x = pick (ltb x 4294967295) x 4294967295
 
 -- what making leaves: the fresh tree over the front of the block, all process records idle over the front of the row
 abbrev pub freshState : ℕ → ℕ → ℕ → ℕ → List ℕ → List Process → State
