@@ -22,3 +22,4 @@ pub mod Reached
 pub mod Beginning
 pub mod Clauses
 pub mod Keeps
+pub mod Outcomes
