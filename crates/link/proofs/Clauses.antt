@@ -95,6 +95,9 @@ module _ {s : State} {es : List Event} (reached : Reached s es) where
       subst (λ (x : ℕ). (c : Step x (S m) (S (suc m))) × KindAt s es m x c) (k-at m)
       (move (good m) .step, kind-at (move (good m) .kind))
 
+  pub step-at : (m : ℕ) → Step k (S m) (S (suc m))
+  step-at m = moves m .0
+
   -- the whole list is a run of the history
   pub run : (end : ℕ) → Run k S end
   run end = record { step = λ m l. moves m .0 }

@@ -23,3 +23,4 @@ pub mod Beginning
 pub mod Clauses
 pub mod Keeps
 pub mod Outcomes
+pub mod Story
