@@ -31,7 +31,7 @@ use Rattle.history.proofs.ChildWords.{Moved, kids-same, swap-moves}
 use Rattle.history.proofs.SetLaws.{step-set-same, step-set-swap}
 use Rattle.history.proofs.Lasting.{Grown}
 use Rattle.history.proofs.Runs.{sound-at, grown-at}
-use Rattle.history.proofs.Swapping.{one-swap}
+use Rattle.history.proofs.Swapping.{SwapBetween, one-swap}
 use Rattle.link.specs.Tables.{tablesOf}
 use Rattle.link.specs.Events.{Event, start, step, State, taken, startIn, stepIn, eventAt, stateAt, blockAt, headerAt, Proper, sinceAt}
 use Rattle.link.specs.Swaps.{ChildSwap}
@@ -190,6 +190,18 @@ module _ {s : State} {es : List Event} (reached : Reached s es) where
 
   pub set-changes : (m r : ℕ) → ChildSwap s es m r → SetMoves k (S m .view) (S (suc m) .view) (S m .rec r)
   set-changes m r w = let z = swap-is m r w in step-set-swap hk (sound m) (moves m .0) r (z .0) (z .1)
+
+  -- as the history says it
+  pub swap-at : (m r : ℕ) → ChildSwap s es m r → SwapAt k S r m × (1 ≤ r)
+  swap-at m r w = let z = swap-is m r w in (record { step = moves m .0; is = z .0 }, z .1)
+
+  pub swap-event : (end r i j : ℕ) (w : SwapBetween k S end (run end) r i j) → 1 ≤ r → ChildSwap s es (w .when) r
+  unfolding run
+  swap-event end r i j w l = go (moves (w .when) .1)
+    where
+      go : KindAt s es (w .when) k (moves (w .when) .0) → ChildSwap s es (w .when) r
+      go (none-swaps e d) = absurd (omega (arith, w .is, e))
+      go (one-swaps x a v e) = subst (λ (y : ℕ). ChildSwap s es (w .when) y) (sym e ∙ w .is) v
 
   -- each record has at most one
   pub swaps-once : (m m′ r : ℕ) → ChildSwap s es m r → ChildSwap s es m′ r → m ≡ m′

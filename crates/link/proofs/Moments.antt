@@ -52,8 +52,8 @@ pub record Busy (hs : ℕ → Header) (bs : ℕ → List ℕ) (i j n : ℕ) (q :
 pub data Why (k : ℕ) (S : ℕ → Shared) (i j n : ℕ) (q : Process) (a : Answer) : Type 0 where
   found : q .operation ≡ 1 → a ≡ Yes → Moment i j (λ m. Holds k (S m .view) (q .key)) → Why k S i j n q a
   missing : q .operation ≡ 1 → a ≡ No → Moment i j (λ m. ¬ Holds k (S m .view) (q .key)) → Why k S i j n q a
-  there : q .operation ≡ 2 → a ≡ No → Moment i j (λ m. Holds k (S m .view) (q .key)) → Why k S i j n q a
-  not-there : q .operation ≡ 3 → a ≡ No → Moment i j (λ m. ¬ Holds k (S m .view) (q .key)) → Why k S i j n q a
+  there : q .operation ≡ 2 → a ≡ No → q .own ≡ 0 → Moment i j (λ m. Holds k (S m .view) (q .key)) → Why k S i j n q a
+  not-there : q .operation ≡ 3 → a ≡ No → q .own ≡ 0 → Moment i j (λ m. ¬ Holds k (S m .view) (q .key)) → Why k S i j n q a
   no-room : q .operation ≢ 1 → a ≡ Full → q .own ≡ 0 → Why k S i j n q a
   did : q .operation ≢ 1 → a ≡ Yes → In (S j .records) (q .own) → S j .rec (q .own) .process ≡ n → S j .rec (q .own) .operation ≡ q .operation
       → S j .rec (q .own) .key ≡ q .key → Done k (S j .view) (S j .rec (q .own)) (q .own) → Why k S i j n q a

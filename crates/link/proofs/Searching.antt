@@ -221,7 +221,7 @@ module _ {hs : ℕ → Header} {bs : ℕ → List ℕ} {i j n : ℕ} (now : Now 
 
       inserts : q .operation ≡ 2 → (t : Bool) → holds (q .key) (keysOf b h child (tagWord b h child)) ≡ t → Follows hs bs i j n h b q (insertAt (withL q child) t)
       unfolding pick
-      inserts o true e = answers (answer 0) refl (there o refl (leaf-has (k-low now) (now .run) (now .first) (w₂ .way) got not-inner (has e)))
+      inserts o true e = answers (answer 0) refl (there o refl (y .counters .early-own (omega arith)) (leaf-has (k-low now) (now .run) (now .first) (w₂ .way) got not-inner (has e)))
       inserts o false e = go (isCleanOf (q .pseen)) refl
         where
           four : (c : ℕ) → q .pseen ≡ Clean c → Follows hs bs i j n h b q (goingOn (withPoint (withL q child) 4))
@@ -239,7 +239,7 @@ module _ {hs : ℕ → Header} {bs : ℕ → List ℕ} {i j n : ℕ} (now : Now 
 
       deletes : q .operation ≡ 3 → (t : Bool) → holds (q .key) (keysOf b h child (tagWord b h child)) ≡ t → Follows hs bs i j n h b q (deleteAt (withL q child) t)
       unfolding pick ones onesIn
-      deletes o false e = answers (answer 0) refl (not-there o refl (leaf-lacks (k-low now) (now .run) (now .first) (w₂ .way) got not-inner (lacks e)))
+      deletes o false e = answers (answer 0) refl (not-there o refl (y .counters .early-own (omega arith)) (leaf-lacks (k-low now) (now .run) (now .first) (w₂ .way) got not-inner (lacks e)))
       deletes o true e = go (isCleanOf (q .gseen)) refl (isCleanOf (q .pseen)) refl
         where
           three : (c g : ℕ) → q .pseen ≡ Clean c → q .gseen ≡ Clean g → Follows hs bs i j n h b q (goingOn (toThree (withL q child)))
