@@ -24,3 +24,4 @@ pub mod Clauses
 pub mod Keeps
 pub mod Outcomes
 pub mod Story
+pub mod Answers

@@ -54,7 +54,7 @@ capped-up x = go (decLt x 4294967295) (decLt (x + 1) 4294967295)
     go (yes a) (no c) = rw (lt-ltb x 4294967295 a, lt-ltb x 4294967295 a, le-ltb (x + 1) 4294967295 (omega arith)) (omega arith)
     go (no a) c = rw (le-ltb x 4294967295 (omega arith), le-ltb (x + 1) 4294967295 (omega arith)) refl
 
-steps-next : (s : State) (es : List Event) (m n : ℕ) (t u : Bool) → starts (stateAt s es m) (eventAt es m) n ≡ t → steppedBy (stateAt s es m) (eventAt es m) n ≡ u
+pub steps-next : (s : State) (es : List Event) (m n : ℕ) (t u : Bool) → starts (stateAt s es m) (eventAt es m) n ≡ t → steppedBy (stateAt s es m) (eventAt es m) n ≡ u
     → stepsAt s es n (suc m) ≡ pick t 0 (pick u (stepsAt s es n m + 1) (stepsAt s es n m))
 unfolding stepsAt
 steps-next s es m n t u e f = rw (e, f) refl
