@@ -9,7 +9,7 @@ use native.Mathlib.Decide.{ℕ-discrete, decLe}
 use lib.Dec.{ltb, eqb}
 use borrow.Author.Tests.{eqb-true, eqb-false, eq-eqb, ne-eqb}
 use Rattle.tables.specs.Choice.{pick, both}
-use Rattle.tables.specs.Layout.{tagWord, pendingWord, recordWord, processField}
+use Rattle.tables.specs.Layout.{tagWord, pendingWord, recordWord, processField, operationField, keyField}
 use Rattle.tables.specs.Pending.{wordOf, pendingOf}
 use Rattle.tables.specs.Node.{kinOf, isNode}
 use Rattle.tables.specs.Keys.{keysOf, rises, holds}
@@ -203,7 +203,7 @@ module _ {hs : ℕ → Header} {bs : ℕ → List ℕ} {i j n : ℕ} (now : Now 
         swapper = nobody (λ z. absurd (omega arith)) (λ z. absurd (omega arith)) refl;
         stacks = λ m u d. drew-stack (now .fit) drew m u;
         owners′ = drew-owners job drew (now .owners) (y .place);
-        drawn-by = λ m a c. (let z : m ≡ newRecord h = omega arith in (subst (λ (x : ℕ). recordWord b′ h x processField ≡ n) (sym z) (drew .new processField (omega arith)), sym z));
+        drawn-by = λ m a c. (let z : m ≡ newRecord h = omega arith in (subst (λ (x : ℕ). recordWord b′ h x processField ≡ n) (sym z) (drew .new processField (omega arith)), sym z, subst (λ (x : ℕ). recordWord b′ h x operationField ≡ q .operation) (sym z) (drew .new operationField (omega arith)), subst (λ (x : ℕ). recordWord b′ h x keyField ≡ q .key) (sym z) (drew .new keyField (omega arith))));
         follows =
             afterwards (toSix (withOwn q (newRecord h)) (newRecord h)) refl
             (held-own (newRecord h) (omega arith) (held-more (grown (k-low now) I step) (y .held)))
@@ -278,7 +278,7 @@ module _ {hs : ℕ → Header} {bs : ℕ → List ℕ} {i j n : ℕ} (now : Now 
         swapper = nobody (λ z. absurd (omega arith)) (λ z. absurd (omega arith)) refl;
         stacks = λ m u d. drew-stack (now .fit) drew₅ m u;
         owners′ = drew-owners job drew₅ (now .owners) (y .place);
-        drawn-by = λ m a c. (let z : m ≡ newRecord h = omega arith in (subst (λ (x : ℕ). recordWord b₅ h x processField ≡ n) (sym z) (drew₅ .new processField (omega arith)), sym z));
+        drawn-by = λ m a c. (let z : m ≡ newRecord h = omega arith in (subst (λ (x : ℕ). recordWord b₅ h x processField ≡ n) (sym z) (drew₅ .new processField (omega arith)), sym z, subst (λ (x : ℕ). recordWord b₅ h x operationField ≡ q .operation) (sym z) (drew₅ .new operationField (omega arith)), subst (λ (x : ℕ). recordWord b₅ h x keyField ≡ q .key) (sym z) (drew₅ .new keyField (omega arith))));
         follows =
             afterwards (toNine (withOwn q (newRecord h)) (newRecord h)) refl
             (held-own (newRecord h) (omega arith) (held-more (grown (k-low now) I step₅) (y .held)))
