@@ -25,3 +25,4 @@ pub mod Keeps
 pub mod Outcomes
 pub mod Story
 pub mod Answers
+pub mod Origins
