@@ -30,6 +30,7 @@ use Rattle.history.proofs.SearchOrder.{figure-3}
 use Rattle.history.proofs.ChildWords.{Moved, kids-same, swap-moves}
 use Rattle.history.proofs.SetLaws.{step-set-same, step-set-swap}
 use Rattle.history.proofs.Lasting.{Grown}
+use Rattle.history.proofs.Walking.{Listing, listing}
 use Rattle.history.proofs.Runs.{sound-at, grown-at}
 use Rattle.history.proofs.Swapping.{SwapBetween, one-swap}
 use Rattle.link.specs.Tables.{tablesOf}
@@ -154,6 +155,10 @@ module _ {s : State} {es : List Event} (reached : Reached s es) where
   pub search-order : (m n i l x : ℕ) → Reach k (S m .view) n → S m .view .tag n ≡ k → In k i → Below k (S m .view) (S m .view .child n i) l
       → S m .view .tag l ≢ k → List·Memᴰ x (keys (S m .view) l) → route k (S m .view .key n) x ≡ i
   search-order m = figure-3 (omega (arith, hk)) (sound m .inv .uniq) (sound m .inv .ordered)
+
+  -- the walk of the history over the tables of a moment never runs out, and lists exactly the set, ascending
+  pub lists : (m deep left : ℕ) → S m .nodes ≤ deep → S m .nodes ≤ left → Listing k (S m) deep left
+  lists m deep left a c = listing deep left hk (sound m) a c
 
   -- 3. A child word of a node in use changes at an event exactly when it is a child swap
   pub kids-stay : (m : ℕ) → ((r : ℕ) → ¬ ChildSwap s es m r) → (n j : ℕ) → In (S m .nodes) n → In k j → S (suc m) .view .child n j ≡ S m .view .child n j

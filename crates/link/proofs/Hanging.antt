@@ -200,12 +200,20 @@ module _ {hs : ℕ → Header} {bs : ℕ → List ℕ} {i j n : ℕ} (now : Now 
     unfolding row7
     turn-7 =
         hangs P (recordWord b h r lField) T 8 u₇ f₇ i₇ up₇
-        (λ x. (step₇ x, at-7 e₇ x (is₇ x), afterwards (withPoint q 8) refl (held-more (grown hk I (step₇ x)) (y .held))
-        (counters 7 e₇ (omega arith) w₇ 8 (q .index) (omega arith) (omega arith) (i₇ .high) (i₇ .low) (λ z. omega arith)) (omega arith)
-        (serving 7 e₇ (omega arith) w₇ (hung P T) (tablesOf h (hung P T)) 8 (q .index) (λ z. omega arith) (hung-stack P 0 T 0 u₇ f₇ i₇ up₇ n (y .place))
-        (serves-stays mind 7 hk I (step₇ x) (omega arith) w₇) (swap-ends hk I (step₇ x) (w₇ .used .low) (is₇ x) (w₇ .helps .kind)))))
-        (λ x. ((λ z. x), (λ z. absurd (omega arith)), already (withPoint q 8) refl (y .held) (counters 7 e₇ (omega arith) w₇ 8 (q .index) (omega arith) (omega arith) (i₇ .high) (i₇ .low) (λ z. omega arith))
-        (serving 7 e₇ (omega arith) w₇ b (S j) 8 (q .index) (λ z. omega arith) refl w₇ (l-swapped-before hk I r (w₇ .used) (w₇ .helps) x))))
+        (λ x. (
+          step₇ x,
+          at-7 e₇ x (is₇ x),
+          afterwards (withPoint q 8) refl (held-more (grown hk I (step₇ x)) (y .held))
+              (counters 7 e₇ (omega arith) w₇ 8 (q .index) (omega arith) (omega arith) (i₇ .high) (i₇ .low) (λ z. omega arith)) (omega arith)
+              (serving 7 e₇ (omega arith) w₇ (hung P T) (tablesOf h (hung P T)) 8 (q .index) (λ z. omega arith) (hung-stack P 0 T 0 u₇ f₇ i₇ up₇ n (y .place))
+              (serves-stays mind 7 hk I (step₇ x) (omega arith) w₇) (swap-ends hk I (step₇ x) (w₇ .used .low) (is₇ x) (w₇ .helps .kind))),
+        ))
+        (λ x. (
+          (λ z. x),
+          (λ z. absurd (omega arith)),
+          already (withPoint q 8) refl (y .held) (counters 7 e₇ (omega arith) w₇ 8 (q .index) (omega arith) (omega arith) (i₇ .high) (i₇ .low) (λ z. omega arith))
+              (serving 7 e₇ (omega arith) w₇ b (S j) 8 (q .index) (λ z. omega arith) refl w₇ (l-swapped-before hk I r (w₇ .used) (w₇ .helps) x)),
+        ))
 
   module _ (e₁₃ : q .point ≡ 13) where
     w₁₃ : Serves k (S j) mind 13
@@ -253,9 +261,17 @@ module _ {hs : ℕ → Header} {bs : ℕ → List ℕ} {i j n : ℕ} (now : Now 
     unfolding row13
     turn-13 =
         hangs T P (q .other) 14 u₁₃ f₁₃ i₁₃ up₁₃
-        (λ x. (step₁₃ x, at-13 e₁₃ x (is₁₃ x), afterwards (withPoint q 14) refl (held-more (grown hk I (step₁₃ x)) (y .held))
-        (counters 13 e₁₃ (omega arith) w₁₃ 14 (q .index) (omega arith) (omega arith) (i₁₃ .high) (i₁₃ .low) (λ z. omega arith)) (omega arith)
-        (serving 13 e₁₃ (omega arith) w₁₃ (hung T (q .other)) (tablesOf h (hung T (q .other))) 14 (q .index) (λ z. omega arith) (hung-stack T 0 (q .other) 0 u₁₃ f₁₃ i₁₃ up₁₃ n (y .place))
-        (serves-stays mind 13 hk I (step₁₃ x) (omega arith) w₁₃) (swap-ends hk I (step₁₃ x) (w₁₃ .used .low) (is₁₃ x) kind))))
-        (λ x. ((λ z. absurd (omega arith)), (λ z. x), already (withPoint q 14) refl (y .held) (counters 13 e₁₃ (omega arith) w₁₃ 14 (q .index) (omega arith) (omega arith) (i₁₃ .high) (i₁₃ .low) (λ z. omega arith))
-        (serving 13 e₁₃ (omega arith) w₁₃ b (S j) 14 (q .index) (λ z. omega arith) refl w₁₃ (p-swapped-before hk I r (w₁₃ .used) (w₁₃ .helps) x))))
+        (λ x. (
+          step₁₃ x,
+          at-13 e₁₃ x (is₁₃ x),
+          afterwards (withPoint q 14) refl (held-more (grown hk I (step₁₃ x)) (y .held))
+              (counters 13 e₁₃ (omega arith) w₁₃ 14 (q .index) (omega arith) (omega arith) (i₁₃ .high) (i₁₃ .low) (λ z. omega arith)) (omega arith)
+              (serving 13 e₁₃ (omega arith) w₁₃ (hung T (q .other)) (tablesOf h (hung T (q .other))) 14 (q .index) (λ z. omega arith) (hung-stack T 0 (q .other) 0 u₁₃ f₁₃ i₁₃ up₁₃ n (y .place))
+              (serves-stays mind 13 hk I (step₁₃ x) (omega arith) w₁₃) (swap-ends hk I (step₁₃ x) (w₁₃ .used .low) (is₁₃ x) kind)),
+        ))
+        (λ x. (
+          (λ z. absurd (omega arith)),
+          (λ z. x),
+          already (withPoint q 14) refl (y .held) (counters 13 e₁₃ (omega arith) w₁₃ 14 (q .index) (omega arith) (omega arith) (i₁₃ .high) (i₁₃ .low) (λ z. omega arith))
+              (serving 13 e₁₃ (omega arith) w₁₃ b (S j) 14 (q .index) (λ z. omega arith) refl w₁₃ (p-swapped-before hk I r (w₁₃ .used) (w₁₃ .helps) x)),
+        ))

@@ -86,7 +86,7 @@ pub record Turn (hs : ℕ → Header) (bs : ℕ → List ℕ) (i j n : ℕ) (q :
   pub swapper : Swapper hs bs j q (tablesOf h′ b′) step
   pub stacks : (m : ℕ) → In (hs j .processes) m → m ≢ n → stackOf h′ b′ m ≡ stackOf (hs j) (bs j) m
   pub owners′ : (r : ℕ) → In (h′ .recordsused) r → In (h′ .processes) (recordWord b′ h′ r processField)
-  pub drawn-by : (r : ℕ) → hs j .recordsused < r → r ≤ h′ .recordsused → 
+  pub drawn-by : (r : ℕ) → hs j .recordsused < r → r ≤ h′ .recordsused →
       (recordWord b′ h′ r processField ≡ n) × (stepped .process .own ≡ r) × (recordWord b′ h′ r operationField ≡ q .operation) × (recordWord b′ h′ r keyField ≡ q .key)
   pub follows : Follows hs bs i j n h′ b′ q stepped
 

@@ -246,5 +246,5 @@ module _ {s : State} {es : List Event} (reached : Reached s es) where
               works-on x = omega (arith, b .counters .op-low)
           at (no a) =
               let t = taken-other (good reached m) p (rowOf (blockAt s es m) (headerAt s es m) p (taken (W m) p) .block)
-                  (rowOf (blockAt s es m) (headerAt s es m) p (taken (W m) p) .stepped .process) (state-is (good reached m) p v z b e) v n (u .low) a in
+              (rowOf (blockAt s es m) (headerAt s es m) p (taken (W m) p) .stepped .process) (state-is (good reached m) p v z b e) v n (u .low) a in
               carried m n t (f n) (g′ n a) (λ r x c y. a (sym y ∙ its-shift (good reached m) p v z b e .drawn-by r x c)) (ih (busy-before t))
