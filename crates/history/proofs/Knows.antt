@@ -92,6 +92,7 @@ pub record Serves (k : ℕ) (s : Shared) (M : Mind) (point : ℕ) : Type 0 where
   pub helps : Helps k s (M .helped) (M .index) (M .other) point
   pub stacked : Stacked k s (M .stack) (M .depth)
   pub goes-on : point ≡ 9 → Goes-on s (M .stack) (M .depth) (M .helped)
+  pub on-top : point ≡ 10 → (d : ℕ) → M .depth ≡ suc d → M .helped ≡ M .stack d
   pub own : Owns s M
 
 -- by the point
@@ -171,6 +172,7 @@ module _ {k : ℕ} (S : ℕ → Shared) (i j : ℕ) (M : Mind) (hk : 2 ≤ k) (I
     helps = helps-stays hk I c (M .helped) (M .index) (M .other) (suc (suc (suc (suc (suc (suc n)))))) (w .used) (w .helps);
     stacked = stack-stays hk I c (w .stacked);
     goes-on = λ z. goes-on-stays hk I c (w .stacked) (w .used) (w .goes-on z);
+    on-top = w .on-top;
     own = owns-stays hk I c (w .own);
   }
 

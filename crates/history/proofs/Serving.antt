@@ -20,12 +20,13 @@ module _ {k : ℕ} {s : Shared} {M : Mind} (hk : 2 ≤ k) (r : ℕ) (h : In (s .
     helps = rw helped (record { kind = kd; passed = rw one (passed-first hk r (s .rec r .p)) });
     stacked = st;
     goes-on = λ z. absurd (omega arith);
+    on-top = λ z. absurd (omega arith);
     own = own;
   }
 
   -- a prune: to 9
   pub serve-prune : s .rec r .kind ≡ 2 → Goes-on s (M .stack) (M .depth) r → Serves k s M 9
-  serve-prune kd g = record { used = rw helped h; helps = rw helped kd; stacked = st; goes-on = λ z. rw helped g; own = own }
+  serve-prune kd g = record { used = rw helped h; helps = rw helped kd; stacked = st; goes-on = λ z. rw helped g; on-top = λ z. absurd (omega arith); own = own }
 
   -- a mark: to 11 with its record, index 1, nothing noted
   pub serve-mark : Marks s r → M .index ≡ 1 → M .other ≡ 0 → Serves k s M 11
@@ -34,6 +35,7 @@ module _ {k : ℕ} {s : Shared} {M : Mind} (hk : 2 ≤ k) (r : ℕ) (h : In (s .
     helps = rw helped (record { marks = m; noted = rw (one, none) noted-first });
     stacked = st;
     goes-on = λ z. absurd (omega arith);
+    on-top = λ z. absurd (omega arith);
     own = own;
   }
 
@@ -45,6 +47,7 @@ serve-top {k} {s} {M} d e t st own = record {
   helps = rw t (st .failed d (omega arith));
   stacked = st;
   goes-on = λ z. absurd (omega arith);
+  on-top = λ z a y. (let b : a ≡ d = omega arith in rw b t);
   own = own;
 }
 
@@ -81,13 +84,14 @@ module _ {s : Shared} {M M′ : Mind} (same-process : M′ .process ≡ M .proce
   owns-same d e f o = owns-with (λ z. (sym d ∙ z, e)) (λ z. inr (omega arith, f 0 (omega arith))) o
 
   -- so the rows that neither push nor pop have only their own facts to show
-  pub serves-on : {k p q : ℕ} → Serves k s M p → q ≢ 9 → M′ .depth ≡ M .depth → M′ .helped ≡ M .helped
+  pub serves-on : {k p q : ℕ} → Serves k s M p → q ≢ 9 → q ≢ 10 → M′ .depth ≡ M .depth → M′ .helped ≡ M .helped
       → ((i : ℕ) → i < M .depth → M′ .stack i ≡ M .stack i) → Helps k s (M′ .helped) (M′ .index) (M′ .other) q → Serves k s M′ q
-  serves-on w n d e f x = record {
+  serves-on w n n₁₀ d e f x = record {
     used = rw e (w .used);
     helps = x;
     stacked = rw d (stack-front (omega arith) f (w .stacked));
     goes-on = λ z. absurd (n z);
+    on-top = λ z. absurd (n₁₀ z);
     own = owns-same d e f (w .own);
   }
 

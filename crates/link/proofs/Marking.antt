@@ -123,7 +123,7 @@ module _ {hs : ℕ → Header} {bs : ℕ → List ℕ} {i j n : ℕ} (now : Now 
     marked-after : seen ≡ recordWord b h r expectedField → Follows hs bs i j n h marked-block q (goingOn (toEleven q r))
     marked-after x =
         afterwards (toEleven q r) refl (held-other 0 (inl refl) (held-more (grown hk I (step₉ x)) (y .held))) eleven (omega arith)
-        (goes-on h b marked-block n 9 11 q (toEleven q r) refl refl refl refl refl (mark-stack n (y .place)) (λ z. omega arith)
+        (goes-on h b marked-block n 9 11 q (toEleven q r) refl refl refl refl refl (mark-stack n (y .place)) (λ z. omega arith) (λ z. omega arith)
         (serves-stays mind 9 hk I (step₉ x) (omega arith) w₉) (record { marks = marks-now; noted = noted-first }))
 
     -- the mark was there
@@ -131,7 +131,7 @@ module _ {hs : ℕ → Header} {bs : ℕ → List ℕ} {i j n : ℕ} (now : Now 
     unfolding Marks
     marked-before x =
         already (toEleven q r) refl (held-other 0 (inl refl) (y .held)) eleven
-        (goes-on h b b n 9 11 q (toEleven q r) refl refl refl refl refl refl (λ z. omega arith) w₉ (record { marks = (kind, x); noted = noted-first }))
+        (goes-on h b b n 9 11 q (toEleven q r) refl refl refl refl refl refl (λ z. omega arith) (λ z. omega arith) w₉ (record { marks = (kind, x); noted = noted-first }))
 
     -- a push
     module _ (moved : seen ≢ recordWord b h r expectedField) (unmarked : seen ≢ 4 * r + 3) where
@@ -266,11 +266,11 @@ module _ {hs : ℕ → Header} {bs : ℕ → List ℕ} {i j n : ℕ} (now : Now 
               already (withIndex (withOther q other) (q .index + 1)) refl (held-other other g (y .held))
               (rw e₁₁ (counters-help 11 (q .index + 1) (q .depth) (q .own) (y .counters) busy₁₁ (omega arith) (omega arith) (omega (arith, ltb-true (q .index) k x)) (λ z. absurd (omega arith)) (λ z v. omega arith) (λ z. absurd (omega arith))))
               (subst (λ (m : ℕ). KnowsAt k S i j (mindOf h b n (withIndex (withOther q other) (q .index + 1))) m) (sym e₁₁)
-              (goes-on h b b n 11 11 q (withIndex (withOther q other) (q .index + 1)) refl refl refl refl refl refl (λ z. omega arith) w₁₁ (rw (add-one (q .index)) w)))
+              (goes-on h b b n 11 11 q (withIndex (withOther q other) (q .index + 1)) refl refl refl refl refl refl (λ z. omega arith) (λ z. omega arith) w₁₁ (rw (add-one (q .index)) w)))
           go false x =
               already (toTwelve (withOther q other)) refl (held-other other g (y .held))
               (counters-help 12 1 (q .depth) (q .own) (y .counters) busy₁₁ (omega arith) (omega arith) (omega (arith, hk)) (λ z. absurd (omega arith)) (λ z v. omega arith) (λ z. absurd (omega arith)))
-              (goes-on h b b n 11 12 q (toTwelve (withOther q other)) refl refl refl refl refl refl (λ z. omega arith) w₁₁
+              (goes-on h b b n 11 12 q (toTwelve (withOther q other)) refl refl refl refl refl refl (λ z. omega arith) (λ z. omega arith) w₁₁
               (all-noted hk I r (w₁₁ .used) (subst (λ (m : ℕ). Notes k (S j) r (suc m) other) (last (ltb-false (q .index) k x)) w)))
             where
               last : k ≤ q .index → q .index ≡ k

@@ -123,7 +123,7 @@ stack-at h b n d l = rw (lt-ltb d (depthOf h) l) refl
 
 -- the same record helped on, the stack as it was
 pub goes-on : {k : ℕ} {s : Shared} (h : Header) (b b′ : List ℕ) (n m m′ : ℕ) (q q′ : Process) → q′ .operation ≡ q .operation → q′ .key ≡ q .key → q′ .own ≡ q .own → q′ .depth ≡ q .depth
-    → q′ .helped ≡ q .helped → stackOf h b′ n ≡ stackOf h b n → m′ ≢ 9 → Serves k s (mindOf h b n q) m → Helps k s (q′ .helped) (q′ .index) (q′ .other) m′
+    → q′ .helped ≡ q .helped → stackOf h b′ n ≡ stackOf h b n → m′ ≢ 9 → m′ ≢ 10 → Serves k s (mindOf h b n q) m → Helps k s (q′ .helped) (q′ .index) (q′ .other) m′
     → Serves k s (mindOf h b′ n q′) m′
-goes-on h b b′ n m m′ q q′ o y w d e z x v u =
-    serves-on {M = mindOf h b n q} {M′ = mindOf h b′ n q′} refl o y w v x d e (λ a l. ap (λ (f : ℕ → ℕ). f a) z) u
+goes-on h b b′ n m m′ q q′ o y w d e z x x₁₀ v u =
+    serves-on {M = mindOf h b n q} {M′ = mindOf h b′ n q′} refl o y w v x x₁₀ d e (λ a l. ap (λ (f : ℕ → ℕ). f a) z) u
