@@ -144,7 +144,7 @@ module _ {hs : ℕ → Header} {bs : ℕ → List ℕ} {j n : ℕ} (now : Now hs
   -- the one that did
   pub busy-own : {i : ℕ} (q : Process) (s : Stepped) → i ≤ j → In (hs j .processes) n → Follows hs bs i j n (hs (suc j)) (bs (suc j)) q s
       → Busy hs bs i (suc j) n (s .process) ⊎ (s .process ≡ idle)
-  busy-own {i} q s l u (already q′ e w c z) = inl (subst (λ (x : Stepped). Busy hs bs i (suc j) n (x .process)) (sym e) goes)
+  busy-own {i} q s l u (already q′ e fr w c z) = inl (subst (λ (x : Stepped). Busy hs bs i (suc j) n (x .process)) (sym e) goes)
     where
       goes : Busy hs bs i (suc j) n (withSteps q′ (stepsUp (q′ .steps)))
       goes = record {
@@ -156,7 +156,7 @@ module _ {hs : ℕ → Header} {bs : ℕ → List ℕ} {j n : ℕ} (now : Now hs
             subst (λ (x : ℕ). KnowsAt x S i (suc j) (mindOf (hs (suc j)) (bs (suc j)) n q′) (q′ .point)) (sym (sh .k-same))
             (stays-at S i j (mindOf (hs (suc j)) (bs (suc j)) n q′) (k-low now) (now-sound now) (sh .step) (q′ .point) z);
       }
-  busy-own {i} q s l u (afterwards q′ e w c m z) = inl (subst (λ (x : Stepped). Busy hs bs i (suc j) n (x .process)) (sym e) goes)
+  busy-own {i} q s l u (afterwards q′ e fr w c m z) = inl (subst (λ (x : Stepped). Busy hs bs i (suc j) n (x .process)) (sym e) goes)
     where
       goes : Busy hs bs i (suc j) n (withSteps q′ (stepsUp (q′ .steps)))
       goes = record {
@@ -168,4 +168,4 @@ module _ {hs : ℕ → Header} {bs : ℕ → List ℕ} {j n : ℕ} (now : Now hs
             subst (λ (x : ℕ). KnowsAt x S i (suc j) (mindOf (hs (suc j)) (bs (suc j)) n q′) (q′ .point)) (sym (sh .k-same))
             (knows-serves S i (suc j) (mindOf (hs (suc j)) (bs (suc j)) n q′) (q′ .point) m z);
       }
-  busy-own q s l u (answers a e w) = inr (ap (λ (x : Stepped). x .process) e)
+  busy-own q s l u (answers a e fr w) = inr (ap (λ (x : Stepped). x .process) e)

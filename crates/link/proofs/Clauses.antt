@@ -55,9 +55,9 @@ kind-at (swap-of r l w e) = one-swaps r l w e
 -- a step of a busy process goes on or ends
 pub stepped-says : {hs : ℕ → Header} {bs : ℕ → List ℕ} {i j n : ℕ} {h′ : Header} {b′ : List ℕ} {q : Process} {s : Stepped} → Follows hs bs i j n h′ b′ q s
     → (s .answer ≡ GoesOn) ⊎ ((a : Answer) × (s .answer ≡ Ended a (stepsUp (q .steps))) × Why (hs j .k) (tables hs bs) i j n q a)
-stepped-says (already q′ e x y z) = inl (ap (λ (t : Stepped). t .answer) e)
-stepped-says (afterwards q′ e x y l z) = inl (ap (λ (t : Stepped). t .answer) e)
-stepped-says (answers a e w) = inr (a, ap (λ (t : Stepped). t .answer) e, w)
+stepped-says (already q′ e fr x y z) = inl (ap (λ (t : Stepped). t .answer) e)
+stepped-says (afterwards q′ e fr x y l z) = inl (ap (λ (t : Stepped). t .answer) e)
+stepped-says (answers a e fr w) = inr (a, ap (λ (t : Stepped). t .answer) e, w)
 
 -- a state at rest, then events whose keys are words of 32 bits
 pub record Reached (s : State) (es : List Event) : Type 0 where

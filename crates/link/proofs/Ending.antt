@@ -23,7 +23,7 @@ use Rattle.points.specs.Touch.{touched}
 use Rattle.points.specs.Help.{topOf, helpEnded, emptyEnd, topGood}
 use Rattle.points.specs.Rows.{seenGood, unflag, unflagRow, popGood, underTop, row8, row10, row14, touch10}
 use Rattle.history.specs.View.{In}
-use Rattle.history.specs.Shared.{Shared, Done, Failed}
+use Rattle.history.specs.Shared.{Shared, Done, Failed, Stands, stands-replace, stands-prune}
 use Rattle.history.specs.Change.{SwapPend, unflag-replace, unflag-prune}
 use Rattle.history.specs.Effects.{swaps}
 use Rattle.history.specs.Run.{Step, changes, rests, step-swaps}
@@ -101,19 +101,19 @@ module _ {hs : ℕ → Header} {bs : ℕ → List ℕ} {i j n : ℕ} (now : Now 
         ap (λ (x : ℕ). stackWord b h n x) z ∙ sym (stack-at h b n d (omega (arith, room)))
 
     -- 8, 14: help has ended with the record done
-    ended-late : (b′ : List ℕ) (v : ℕ) → stackOf h b′ n ≡ stackOf h b n → Ends k (S j) r v → Follows hs bs i j n h b′ q (helpEnded true (topOf b h n q) q)
+    ended-late : (b′ : List ℕ) (v : ℕ) → stackOf h b′ n ≡ stackOf h b n → ¬ Stands (tablesOf h b′ .view) (S j .rec r) r → Ends k (S j) r v → Follows hs bs i j n h b′ q (helpEnded true (topOf b h n q) q)
     unfolding helpEnded pick both
-    ended-late b′ v same ends = go (ℕ-discrete (q .depth) 0)
+    ended-late b′ v same gone ends = go (ℕ-discrete (q .depth) 0)
       where
         more : q .depth ≢ 0 → q .depth ≡ suc (q .depth - 1)
         more z = omega arith
 
         yes-by : Owns (S j) mind → q .depth ≡ 0 → q .own ≢ 0 → Follows hs bs i j n h b′ q (endingOf q (answer 1))
         yes-by (none-yet z) e x = absurd (x z)
-        yes-by (owns u a c f g o) e x = answers (answer 1) refl (did busy refl u a c f (own-done {M = mind} ends (w .own) e x))
+        yes-by (owns u a c f g o) e x = answers (answer 1) refl (λ z. subst (λ (m : ℕ). ¬ Stands (tablesOf h b′ .view) (S j .rec m) m) (g e) gone) (did busy refl u a c f (own-done {M = mind} ends (w .own) e x))
 
         empty : q .depth ≡ 0 → (t : Bool) → eqb (q .own) 0 ≡ t → Follows hs bs i j n h b′ q (pick (not t) (endingOf q (answer 1)) (goingOn (restartedOf q)))
-        empty e true x = restarts n now q q h b′ (y .since) (y .counters)
+        empty e true x = restarts n now q q h b′ (λ z. absurd (z (eqb-true (q .own) 0 x))) (y .since) (y .counters)
         empty e false x = yes-by (w .own) e (eqb-false (q .own) 0 x)
 
         go : Dec (q .depth ≡ 0) → Follows hs bs i j n h b′ q (helpEnded true (topOf b h n q) q)
@@ -122,7 +122,7 @@ module _ {hs : ℕ → Header} {bs : ℕ → List ℕ} {i j n : ℕ} (now : Now 
             rw (ne-eqb (q .depth) 0 e)
             (to-top n now q q b′ (topOf b h n q) (y .since) (y .counters) (y .held) busy (subst (λ (f : ℕ → ℕ). Stacked k (S j) f (q .depth)) (sym same) (w .stacked))
             (subst (λ (f : ℕ → ℕ). Loose (S j) n (q .operation) (q .key) (q .depth) (q .own) f) (sym same) (owns-loose mind (omega arith) (w .own)))
-            (λ d x. top-is d x ∙ ap (λ (f : ℕ → ℕ). f d) (sym same)) (q .depth - 1) (more e))
+            (λ d x. top-is d x ∙ ap (λ (f : ℕ → ℕ). f d) (sym same)) refl (λ z. absurd (e z)) (q .depth - 1) (more e))
 
     -- a node's pending, from this flag to clean
     module _ (node kind v : ℕ) (u : In (h .nodesused) node) (not-7 : m ≢ 7) (not-13 : m ≢ 13) where
@@ -138,10 +138,10 @@ module _ {hs : ℕ → Header} {bs : ℕ → List ℕ} {i j n : ℕ} (now : Now 
       freed-swap : SwapPend k (h .nodesused) (viewOf h b) (viewOf h freed) node (4 * r)
       freed-swap = pend-swap (now .fit) freed-writes (4 * r) (read-same h b (inNode node (pendingPlace k)) (4 * r) node-in (now .fit .long))
 
-      unflags : Ends k (S j) r v → (pendingWord b h node ≡ 4 * r + kind → (c : Step k (S j) (tablesOf h freed)) × (step-swaps k c ≡ 0))
+      unflags : ((b′ : List ℕ) → pendingWord b′ h node ≢ 4 * r + kind → ¬ Stands (tablesOf h b′ .view) (S j .rec r) r) → 1 ≤ kind → Ends k (S j) r v → (pendingWord b h node ≡ 4 * r + kind → (c : Step k (S j) (tablesOf h freed)) × (step-swaps k c ≡ 0))
           → Turn hs bs i j n q (unflagRow b h n q node kind .sound) (unflagRow b h n q node kind .stepped) (unflagRow b h n q node kind .block)
       unfolding unflagRow pick
-      unflags ends step = go (eqb (pendingWord b h node) (4 * r + kind)) refl
+      unflags gone some ends step = go (eqb (pendingWord b h node) (4 * r + kind)) refl
         where
           sound : both (seenGood b h (unflag h q node kind)) (topGood b h (q .depth) (topOf b h n q)) ≡ true
           sound =
@@ -156,8 +156,8 @@ module _ {hs : ℕ → Header} {bs : ℕ → List ℕ} {i j n : ℕ} (now : Now 
           go true x =
               let s = step (eqb-true (pendingWord b h node) (4 * r + kind) x) in
               written now q y freed-writes sound (s .0) (nobody (λ z. absurd (not-7 (sym at ∙ z))) (λ z. absurd (not-13 (sym at ∙ z))) (s .1)) (λ p d z. stacks p d)
-              (ended-late freed v (stacks n (y .place)) ends)
-          go false x = quiet now (λ z. absurd (not-7 (sym at ∙ z))) (λ z. absurd (not-13 (sym at ∙ z))) sound (ended-late b v refl ends)
+              (ended-late freed v (stacks n (y .place)) (gone freed (λ z. omega (arith, freed-swap .pend-new))) ends)
+          go false x = quiet now (λ z. absurd (not-7 (sym at ∙ z))) (λ z. absurd (not-13 (sym at ∙ z))) sound (ended-late b v refl (gone b (eqb-false (pendingWord b h node) (4 * r + kind) x)) ends)
 
   module _ (e₈ : q .point ≡ 8) where
     w₈ : Serves k (S j) mind 8
@@ -171,9 +171,13 @@ module _ {hs : ℕ → Header} {bs : ℕ → List ℕ} {i j n : ℕ} (now : Now 
         changes (unflag-replace r (w₈ .used) (w₈ .helps .is) x (w₈ .helps .done) (freed-swap e₈ (omega arith) w₈ P 1 1 u₈ (λ z. omega arith) (λ z. omega arith))
         (writes-tables (now .fit) (freed-writes e₈ (omega arith) w₈ P 1 1 u₈ (λ z. omega arith) (λ z. omega arith))))
 
+    gone₈ : (b′ : List ℕ) → pendingWord b′ h P ≢ 4 * r + 1 → ¬ Stands (tablesOf h b′ .view) (S j .rec r) r
+    gone₈ b′ d (stands-replace a e) = d e
+    gone₈ b′ d (stands-prune a e) = omega (arith, w₈ .helps .is)
+
     pub turn-8 : Turn hs bs i j n q (row8 b h n q .sound) (row8 b h n q .stepped) (row8 b h n q .block)
     unfolding row8 step₈ step-swaps swaps
-    turn-8 = unflags e₈ (omega arith) w₈ P 1 1 u₈ (λ z. omega arith) (λ z. omega arith) (w₈ .helps) (λ x. (step₈ x, refl))
+    turn-8 = unflags e₈ (omega arith) w₈ P 1 1 u₈ (λ z. omega arith) (λ z. omega arith) gone₈ (omega arith) (w₈ .helps) (λ x. (step₈ x, refl))
 
   module _ (e₁₄ : q .point ≡ 14) where
     w₁₄ : Serves k (S j) mind 14
@@ -187,9 +191,13 @@ module _ {hs : ℕ → Header} {bs : ℕ → List ℕ} {i j n : ℕ} (now : Now 
         changes (unflag-prune r (w₁₄ .used) (w₁₄ .helps .is) x (inl (w₁₄ .helps .done)) (freed-swap e₁₄ (omega arith) w₁₄ T 2 2 u₁₄ (λ z. omega arith) (λ z. omega arith))
         (writes-tables (now .fit) (freed-writes e₁₄ (omega arith) w₁₄ T 2 2 u₁₄ (λ z. omega arith) (λ z. omega arith))))
 
+    gone₁₄ : (b′ : List ℕ) → pendingWord b′ h T ≢ 4 * r + 2 → ¬ Stands (tablesOf h b′ .view) (S j .rec r) r
+    gone₁₄ b′ d (stands-replace a e) = omega (arith, w₁₄ .helps .is)
+    gone₁₄ b′ d (stands-prune a e) = d e
+
     pub turn-14 : Turn hs bs i j n q (row14 b h n q .sound) (row14 b h n q .stepped) (row14 b h n q .block)
     unfolding row14 step₁₄ step-swaps swaps
-    turn-14 = unflags e₁₄ (omega arith) w₁₄ T 2 2 u₁₄ (λ z. omega arith) (λ z. omega arith) (w₁₄ .helps) (λ x. (step₁₄ x, refl))
+    turn-14 = unflags e₁₄ (omega arith) w₁₄ T 2 2 u₁₄ (λ z. omega arith) (λ z. omega arith) gone₁₄ (omega arith) (w₁₄ .helps) (λ x. (step₁₄ x, refl))
 
   module _ (e₁₀ : q .point ≡ 10) where
     w₁₀ : Serves k (S j) mind 10
@@ -223,7 +231,7 @@ module _ {hs : ℕ → Header} {bs : ℕ → List ℕ} {i j n : ℕ} (now : Now 
     popped c = set c (stackAt h n d₁) 0
 
     -- the stack words of c are those of b
-    module _ (c : List ℕ) (same : (p d : ℕ) → In (h .processes) p → d < depthOf h → stackWord c h p d ≡ stackWord b h p d) where
+    module _ (c : List ℕ) (same : (p d : ℕ) → In (h .processes) p → d < depthOf h → stackWord c h p d ≡ stackWord b h p d) (unset : pendingWord (popped c) h T ≢ 4 * r + 2) where
       others : (p : ℕ) → In (h .processes) p → p ≢ n → stackOf h (popped c) p ≡ stackOf h b p
       others p x z =
           stack-same h b (popped c) p
@@ -256,13 +264,23 @@ module _ {hs : ℕ → Header} {bs : ℕ → List ℕ} {i j n : ℕ} (now : Now 
           loose z (none-yet e) = free e
           loose z (owns u a e f g o) = at-bottom (omega arith) u a e f (below 0 (omega arith) ∙ o deep)
 
+          gone : ¬ Stands (tablesOf h (popped c) .view) (S j .rec r) r
+          gone (stands-replace a e) = omega (arith, failed .prune)
+          gone (stands-prune a e) = unset e
+
+          own-gone : d₁ ≡ 0 → q .own ≢ 0 → Owns (S j) mind → ¬ Stands (tablesOf h (popped c) .view) (S j .rec (q .own)) (q .own)
+          own-gone e z (none-yet v) = absurd (z v)
+          own-gone e z (owns u a v f g o) =
+              let x : r ≡ q .own = w₁₀ .on-top refl 0 (omega (arith, deep)) ∙ o deep in
+              subst (λ (m : ℕ). ¬ Stands (tablesOf h (popped c) .view) (S j .rec m) m) x gone
+
           go : Dec (d₁ ≡ 0) → Follows hs bs i j n h (popped c) q (helpEnded false (underTop b h n q) (withDepth q d₁))
-          go (yes e) = rw (eq-eqb d₁ 0 e) (restarts n now q q h (popped c) (y .since) (y .counters))
+          go (yes e) = rw (eq-eqb d₁ 0 e) (restarts n now q q h (popped c) (λ z. own-gone e z (w₁₀ .own)) (y .since) (y .counters))
           go (no e) =
               rw (ne-eqb d₁ 0 e)
               (to-top n now q (withDepth q d₁) (popped c) (underTop b h n q) (y .since)
               (rw e₁₀ (counters-help 10 (q .index) d₁ (q .own) (y .counters) (busy e₁₀ (omega arith) w₁₀) (omega arith) (omega arith) (y .counters .index-high) (λ z. absurd (omega arith)) (λ z x. absurd (omega arith)) (λ z. omega arith)))
-              (y .held) (busy e₁₀ (omega arith) w₁₀) st (loose e (w₁₀ .own)) top (d₁ - 1) (more e))
+              (y .held) (busy e₁₀ (omega arith) w₁₀) st (loose e (w₁₀ .own)) top refl (λ z. absurd (e z)) (d₁ - 1) (more e))
 
     pop-sound : both (seenGood b h (touch10 b h q)) (popGood b h n q (underTop b h n q)) ≡ true
     pop-sound =
@@ -299,6 +317,9 @@ module _ {hs : ℕ → Header} {bs : ℕ → List ℕ} {i j n : ℕ} (now : Now 
     rest₁₀ : Step k (S j) (tablesOf h (popped b))
     rest₁₀ = rests (tables-same (now .fit) writes-one)
 
+    kept-word : eqb (pendingWord b h T) (4 * r + 2) ≡ false → pendingWord (popped b) h T ≢ 4 * r + 2
+    kept-word x z = eqb-false (pendingWord b h T) (4 * r + 2) x (sym (writes-one .node T (pendingPlace k) node-place (λ e. omega (arith, e .0, u₁₀))) ∙ z)
+
     pub turn-10 : Turn hs bs i j n q (row10 b h n q .sound) (row10 b h n q .stepped) (row10 b h n q .block)
     unfolding row10 pick step₁₀ rest₁₀ step-swaps swaps
     turn-10 = go (eqb (pendingWord b h T) (4 * r + 2)) refl
@@ -307,7 +328,7 @@ module _ {hs : ℕ → Header} {bs : ℕ → List ℕ} {i j n : ℕ} (now : Now 
             → Turn hs bs i j n q (both (seenGood b h (touch10 b h q)) (popGood b h n q (underTop b h n q))) (helpEnded false (underTop b h n q) (withDepth q d₁)) (popped (pick t freed₁₀ b))
         go true x =
             written now q y writes-both pop-sound (step₁₀ (eqb-true (pendingWord b h T) (4 * r + 2) x)) (nobody (λ z. absurd (omega arith)) (λ z. absurd (omega arith)) refl)
-            (others freed₁₀ over-node) (after-pop freed₁₀ over-node)
+            (others freed₁₀ over-node (λ z. omega (arith, new-word))) (after-pop freed₁₀ over-node (λ z. omega (arith, new-word)))
         go false x =
-            written now q y writes-one pop-sound rest₁₀ (nobody (λ z. absurd (omega arith)) (λ z. absurd (omega arith)) refl) (others b (λ p d v g. refl))
-            (after-pop b (λ p d v g. refl))
+            written now q y writes-one pop-sound rest₁₀ (nobody (λ z. absurd (omega arith)) (λ z. absurd (omega arith)) refl) (others b (λ p d v g. refl) (kept-word x))
+            (after-pop b (λ p d v g. refl) (kept-word x))

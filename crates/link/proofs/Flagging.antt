@@ -205,7 +205,7 @@ module _ {hs : ℕ → Header} {bs : ℕ → List ℕ} {i j n : ℕ} (now : Now 
         owners′ = drew-owners job drew (now .owners) (y .place);
         drawn-by = λ m a c. (let z : m ≡ newRecord h = omega arith in (subst (λ (x : ℕ). recordWord b′ h x processField ≡ n) (sym z) (drew .new processField (omega arith)), sym z, subst (λ (x : ℕ). recordWord b′ h x operationField ≡ q .operation) (sym z) (drew .new operationField (omega arith)), subst (λ (x : ℕ). recordWord b′ h x keyField ≡ q .key) (sym z) (drew .new keyField (omega arith))));
         follows =
-            afterwards (toSix (withOwn q (newRecord h)) (newRecord h)) refl
+            afterwards (toSix (withOwn q (newRecord h)) (newRecord h)) refl (λ d z. absurd (z (y .counters .early-own (omega arith))))
             (held-own (newRecord h) (omega arith) (held-more (grown (k-low now) I step) (y .held)))
             (counters-help 6 1 (q .depth) (newRecord h) (y .counters) not-find (omega arith) (omega arith) (omega (arith, k-low now)) (λ z. omega arith) (λ z x. absurd (omega arith)) (λ z. absurd (omega arith)))
             (omega arith)
@@ -225,7 +225,7 @@ module _ {hs : ℕ → Header} {bs : ℕ → List ℕ} {i j n : ℕ} (now : Now 
             (pick s (pick r (goingOn (toSix (withOwn q (newRecord h)) (newRecord h))) (endingOf q (answer 2))) (helping (topOf b h n q) q (pendingOf (seenBy b h (touch4 h q)))))
             (pick (both s r) (replaceDrawn b h job count) b)
         go true e true f = with-sound (drawn (eqb-true _ _ e) (room-is h needs f))
-        go true e false f = quiet now (λ z. absurd (omega arith)) (λ z. absurd (omega arith)) sound (answers (answer 2) refl (no-room not-find refl (y .counters .early-own (omega arith))))
+        go true e false f = quiet now (λ z. absurd (omega arith)) (λ z. absurd (omega arith)) sound (answers (answer 2) refl (λ z. absurd (z (y .counters .early-own (omega arith)))) (no-room not-find refl (y .counters .early-own (omega arith))))
         go false e r f = quiet now (λ z. absurd (omega arith)) (λ z. absurd (omega arith)) sound (sees 4 e₄ (omega arith) not-find (q .p) p-used (topOf b h n q))
 
   module _ (e₅ : q .point ≡ 5) where
@@ -280,7 +280,7 @@ module _ {hs : ℕ → Header} {bs : ℕ → List ℕ} {i j n : ℕ} (now : Now 
         owners′ = drew-owners job drew₅ (now .owners) (y .place);
         drawn-by = λ m a c. (let z : m ≡ newRecord h = omega arith in (subst (λ (x : ℕ). recordWord b₅ h x processField ≡ n) (sym z) (drew₅ .new processField (omega arith)), sym z, subst (λ (x : ℕ). recordWord b₅ h x operationField ≡ q .operation) (sym z) (drew₅ .new operationField (omega arith)), subst (λ (x : ℕ). recordWord b₅ h x keyField ≡ q .key) (sym z) (drew₅ .new keyField (omega arith))));
         follows =
-            afterwards (toNine (withOwn q (newRecord h)) (newRecord h)) refl
+            afterwards (toNine (withOwn q (newRecord h)) (newRecord h)) refl (λ d z. absurd (z (y .counters .early-own (omega arith))))
             (held-own (newRecord h) (omega arith) (held-more (grown (k-low now) I step₅) (y .held)))
             (counters-help 9 (q .index) (q .depth) (newRecord h) (y .counters) not-find₅ (omega arith) (omega arith) (y .counters .index-high) (λ z. absurd (omega arith)) (λ z x. absurd (omega arith)) (λ z. absurd (omega arith)))
             (omega arith)
@@ -300,5 +300,5 @@ module _ {hs : ℕ → Header} {bs : ℕ → List ℕ} {i j n : ℕ} (now : Now 
             (pick s (pick r (goingOn (toNine (withOwn q (newRecord h)) (newRecord h))) (endingOf q (answer 2))) (helping (topOf b h n q) q (pendingOf (seenBy b h (touch5 h q)))))
             (pick (both s r) (pruneDrawn b h job (q .gp) (wordOf (q .pseen))) b)
         go true e true f = with-sound (drawn₅ (eqb-true _ _ e) (room-is h 0 f))
-        go true e false f = quiet now (λ z. absurd (omega arith)) (λ z. absurd (omega arith)) sound₅ (answers (answer 2) refl (no-room not-find₅ refl (y .counters .early-own (omega arith))))
+        go true e false f = quiet now (λ z. absurd (omega arith)) (λ z. absurd (omega arith)) sound₅ (answers (answer 2) refl (λ z. absurd (z (y .counters .early-own (omega arith)))) (no-room not-find₅ refl (y .counters .early-own (omega arith))))
         go false e r f = quiet now (λ z. absurd (omega arith)) (λ z. absurd (omega arith)) sound₅ (sees 5 e₅ (omega arith) not-find₅ (q .gp) gp-used (topOf b h n q))

@@ -96,14 +96,14 @@ module _ {hs : ℕ → Header} {bs : ℕ → List ℕ} {i j n : ℕ} (now : Now 
     unfolding row6
     turn-6 =
         looks now q y P (recordWord b h r lField) 7 8 (λ z. omega arith) (λ z. omega arith) (p-used (I .inv) r (w₆ .used)) (I .inv .good r (w₆ .used) .inner) i₆
-        (λ x. already (withPoint q 7) refl (y .held) (counters 6 e₆ (omega arith) w₆ 7 (q .index) (omega arith) (omega arith) (i₆ .high) (i₆ .low) (λ z. omega arith))
+        (λ x. already (withPoint q 7) refl (λ d. absurd (d refl)) (y .held) (counters 6 e₆ (omega arith) w₆ 7 (q .index) (omega arith) (omega arith) (i₆ .high) (i₆ .low) (λ z. omega arith))
         (serving 6 e₆ (omega arith) w₆ b (S j) 7 (q .index) (λ z. omega arith) (λ z. omega arith) refl w₆ (l-found hk I r (w₆ .used) (w₆ .helps) i₆ x)))
-        (λ x l. already (withIndex q (q .index + 1)) refl (y .held)
+        (λ x l. already (withIndex q (q .index + 1)) refl (λ d. absurd (d refl)) (y .held)
         (rw e₆ (counters 6 e₆ (omega arith) w₆ 6 (q .index + 1) (omega arith) (omega arith) (omega arith) (omega arith) (λ z. omega arith)))
         (subst (λ (m : ℕ). KnowsAt k S i j (mindOf h b n (withIndex q (q .index + 1))) m) (sym e₆)
         (goes-on h b b n 6 6 q (withIndex q (q .index + 1)) refl refl refl refl refl refl (λ z. omega arith) (λ z. omega arith) w₆
         (rw (add-one (q .index)) (l-not-here hk I r (w₆ .used) (w₆ .helps) x)))))
-        (λ x l. already (withPoint q 8) refl (y .held) (counters 6 e₆ (omega arith) w₆ 8 (q .index) (omega arith) (omega arith) (i₆ .high) (i₆ .low) (λ z. omega arith))
+        (λ x l. already (withPoint q 8) refl (λ d. absurd (d refl)) (y .held) (counters 6 e₆ (omega arith) w₆ 8 (q .index) (omega arith) (omega arith) (i₆ .high) (i₆ .low) (λ z. omega arith))
         (serving 6 e₆ (omega arith) w₆ b (S j) 8 (q .index) (λ z. omega arith) (λ z. omega arith) refl w₆
         (l-nowhere hk I r (w₆ .used) (subst (λ (m : ℕ). LooksForL k (S j) r (suc m)) l (l-not-here hk I r (w₆ .used) (w₆ .helps) x)))))
 
@@ -118,14 +118,14 @@ module _ {hs : ℕ → Header} {bs : ℕ → List ℕ} {i j n : ℕ} (now : Now 
     unfolding row12 Marks
     turn-12 =
         looks now q y T P 13 14 (λ z. omega arith) (λ z. omega arith) (gp-used (I .inv) r (w₁₂ .used) (w₁₂ .helps .marks .0)) (I .inv .good r (w₁₂ .used) .prune (w₁₂ .helps .marks .0) .gp-inner) i₁₂
-        (λ x. already (withPoint q 13) refl (y .held) (counters 12 e₁₂ (omega arith) w₁₂ 13 (q .index) (omega arith) (omega arith) (i₁₂ .high) (i₁₂ .low) (λ z. omega arith))
+        (λ x. already (withPoint q 13) refl (λ d. absurd (d refl)) (y .held) (counters 12 e₁₂ (omega arith) w₁₂ 13 (q .index) (omega arith) (omega arith) (i₁₂ .high) (i₁₂ .low) (λ z. omega arith))
         (serving 12 e₁₂ (omega arith) w₁₂ b (S j) 13 (q .index) (λ z. omega arith) (λ z. omega arith) refl w₁₂ (p-found hk I r (w₁₂ .used) (w₁₂ .helps) i₁₂ x)))
-        (λ x l. already (withIndex q (q .index + 1)) refl (y .held)
+        (λ x l. already (withIndex q (q .index + 1)) refl (λ d. absurd (d refl)) (y .held)
         (rw e₁₂ (counters 12 e₁₂ (omega arith) w₁₂ 12 (q .index + 1) (omega arith) (omega arith) (omega arith) (omega arith) (λ z. omega arith)))
         (subst (λ (m : ℕ). KnowsAt k S i j (mindOf h b n (withIndex q (q .index + 1))) m) (sym e₁₂)
         (goes-on h b b n 12 12 q (withIndex q (q .index + 1)) refl refl refl refl refl refl (λ z. omega arith) (λ z. omega arith) w₁₂
         (rw (add-one (q .index)) (p-not-here hk I r (w₁₂ .used) (w₁₂ .helps) x)))))
-        (λ x l. already (withPoint q 14) refl (y .held) (counters 12 e₁₂ (omega arith) w₁₂ 14 (q .index) (omega arith) (omega arith) (i₁₂ .high) (i₁₂ .low) (λ z. omega arith))
+        (λ x l. already (withPoint q 14) refl (λ d. absurd (d refl)) (y .held) (counters 12 e₁₂ (omega arith) w₁₂ 14 (q .index) (omega arith) (omega arith) (i₁₂ .high) (i₁₂ .low) (λ z. omega arith))
         (serving 12 e₁₂ (omega arith) w₁₂ b (S j) 14 (q .index) (λ z. omega arith) (λ z. omega arith) refl w₁₂
         (p-nowhere hk I r (w₁₂ .used) (subst (λ (m : ℕ). LooksForP k (S j) r (suc m) (q .other)) l (p-not-here hk I r (w₁₂ .used) (w₁₂ .helps) x)))))
 
@@ -203,7 +203,7 @@ module _ {hs : ℕ → Header} {bs : ℕ → List ℕ} {i j n : ℕ} (now : Now 
         (λ x. (
           step₇ x,
           at-7 e₇ x (is₇ x),
-          afterwards (withPoint q 8) refl (held-more (grown hk I (step₇ x)) (y .held))
+          afterwards (withPoint q 8) refl (λ d. absurd (d refl)) (held-more (grown hk I (step₇ x)) (y .held))
               (counters 7 e₇ (omega arith) w₇ 8 (q .index) (omega arith) (omega arith) (i₇ .high) (i₇ .low) (λ z. omega arith)) (omega arith)
               (serving 7 e₇ (omega arith) w₇ (hung P T) (tablesOf h (hung P T)) 8 (q .index) (λ z. omega arith) (λ z. omega arith) (hung-stack P 0 T 0 u₇ f₇ i₇ up₇ n (y .place))
               (serves-stays mind 7 hk I (step₇ x) (omega arith) w₇) (swap-ends hk I (step₇ x) (w₇ .used .low) (is₇ x) (w₇ .helps .kind))),
@@ -211,7 +211,7 @@ module _ {hs : ℕ → Header} {bs : ℕ → List ℕ} {i j n : ℕ} (now : Now 
         (λ x. (
           (λ z. x),
           (λ z. absurd (omega arith)),
-          already (withPoint q 8) refl (y .held) (counters 7 e₇ (omega arith) w₇ 8 (q .index) (omega arith) (omega arith) (i₇ .high) (i₇ .low) (λ z. omega arith))
+          already (withPoint q 8) refl (λ d. absurd (d refl)) (y .held) (counters 7 e₇ (omega arith) w₇ 8 (q .index) (omega arith) (omega arith) (i₇ .high) (i₇ .low) (λ z. omega arith))
               (serving 7 e₇ (omega arith) w₇ b (S j) 8 (q .index) (λ z. omega arith) (λ z. omega arith) refl w₇ (l-swapped-before hk I r (w₇ .used) (w₇ .helps) x)),
         ))
 
@@ -264,7 +264,7 @@ module _ {hs : ℕ → Header} {bs : ℕ → List ℕ} {i j n : ℕ} (now : Now 
         (λ x. (
           step₁₃ x,
           at-13 e₁₃ x (is₁₃ x),
-          afterwards (withPoint q 14) refl (held-more (grown hk I (step₁₃ x)) (y .held))
+          afterwards (withPoint q 14) refl (λ d. absurd (d refl)) (held-more (grown hk I (step₁₃ x)) (y .held))
               (counters 13 e₁₃ (omega arith) w₁₃ 14 (q .index) (omega arith) (omega arith) (i₁₃ .high) (i₁₃ .low) (λ z. omega arith)) (omega arith)
               (serving 13 e₁₃ (omega arith) w₁₃ (hung T (q .other)) (tablesOf h (hung T (q .other))) 14 (q .index) (λ z. omega arith) (λ z. omega arith) (hung-stack T 0 (q .other) 0 u₁₃ f₁₃ i₁₃ up₁₃ n (y .place))
               (serves-stays mind 13 hk I (step₁₃ x) (omega arith) w₁₃) (swap-ends hk I (step₁₃ x) (w₁₃ .used .low) (is₁₃ x) kind)),
@@ -272,6 +272,6 @@ module _ {hs : ℕ → Header} {bs : ℕ → List ℕ} {i j n : ℕ} (now : Now 
         (λ x. (
           (λ z. absurd (omega arith)),
           (λ z. x),
-          already (withPoint q 14) refl (y .held) (counters 13 e₁₃ (omega arith) w₁₃ 14 (q .index) (omega arith) (omega arith) (i₁₃ .high) (i₁₃ .low) (λ z. omega arith))
+          already (withPoint q 14) refl (λ d. absurd (d refl)) (y .held) (counters 13 e₁₃ (omega arith) w₁₃ 14 (q .index) (omega arith) (omega arith) (i₁₃ .high) (i₁₃ .low) (λ z. omega arith))
               (serving 13 e₁₃ (omega arith) w₁₃ b (S j) 14 (q .index) (λ z. omega arith) (λ z. omega arith) refl w₁₃ (p-swapped-before hk I r (w₁₃ .used) (w₁₃ .helps) x)),
         ))

@@ -122,7 +122,7 @@ module _ {hs : ℕ → Header} {bs : ℕ → List ℕ} {i j n : ℕ} (now : Now 
 
     marked-after : seen ≡ recordWord b h r expectedField → Follows hs bs i j n h marked-block q (goingOn (toEleven q r))
     marked-after x =
-        afterwards (toEleven q r) refl (held-other 0 (inl refl) (held-more (grown hk I (step₉ x)) (y .held))) eleven (omega arith)
+        afterwards (toEleven q r) refl (λ d. absurd (d refl)) (held-other 0 (inl refl) (held-more (grown hk I (step₉ x)) (y .held))) eleven (omega arith)
         (goes-on h b marked-block n 9 11 q (toEleven q r) refl refl refl refl refl (mark-stack n (y .place)) (λ z. omega arith) (λ z. omega arith)
         (serves-stays mind 9 hk I (step₉ x) (omega arith) w₉) (record { marks = marks-now; noted = noted-first }))
 
@@ -130,7 +130,7 @@ module _ {hs : ℕ → Header} {bs : ℕ → List ℕ} {i j n : ℕ} (now : Now 
     marked-before : seen ≡ 4 * r + 3 → Follows hs bs i j n h b q (goingOn (toEleven q r))
     unfolding Marks
     marked-before x =
-        already (toEleven q r) refl (held-other 0 (inl refl) (y .held)) eleven
+        already (toEleven q r) refl (λ d. absurd (d refl)) (held-other 0 (inl refl) (y .held)) eleven
         (goes-on h b b n 9 11 q (toEleven q r) refl refl refl refl refl refl (λ z. omega arith) (λ z. omega arith) w₉ (record { marks = (kind, x); noted = noted-first }))
 
     -- a push
@@ -185,7 +185,7 @@ module _ {hs : ℕ → Header} {bs : ℕ → List ℕ} {i j n : ℕ} (now : Now 
           helps-on n now q deeper pushed-block r (y .since)
           (rw e₉ (counters-help 9 (q .index) (q .depth + 1) (q .own) (y .counters) busy (omega arith) (omega arith) (y .counters .index-high) (λ z. absurd (omega arith)) (λ z x. absurd (omega arith)) (λ z. omega arith)))
           (y .held) busy (serving.pushed (mindOf h pushed-block n deeper) w₉ failed (add-one (q .depth)) same new) (loose (w₉ .own))
-          (λ d z. sym (subst (λ (m : ℕ). stackOf h pushed-block n m ≡ r) (is d z) new)) (read-now I u₉)
+          (λ d z. sym (subst (λ (m : ℕ). stackOf h pushed-block n m ≡ r) (is d z) new)) refl (λ z. absurd (omega arith)) (read-now I u₉)
           (λ m z. serving.met-there (mindOf h pushed-block n deeper) w₉ failed (add-one (q .depth)) same new z)
         where
           is : (d : ℕ) → q .depth + 1 ≡ suc d → q .depth ≡ d
@@ -263,12 +263,12 @@ module _ {hs : ℕ → Header} {bs : ℕ → List ℕ} {i j n : ℕ} (now : Now 
         where
           go : (t : Bool) → ltb (q .index) k ≡ t → Follows hs bs i j n h b q (pick t (goingOn (withIndex (withOther q other) (q .index + 1))) (goingOn (toTwelve (withOther q other))))
           go true x =
-              already (withIndex (withOther q other) (q .index + 1)) refl (held-other other g (y .held))
+              already (withIndex (withOther q other) (q .index + 1)) refl (λ d. absurd (d refl)) (held-other other g (y .held))
               (rw e₁₁ (counters-help 11 (q .index + 1) (q .depth) (q .own) (y .counters) busy₁₁ (omega arith) (omega arith) (omega (arith, ltb-true (q .index) k x)) (λ z. absurd (omega arith)) (λ z v. omega arith) (λ z. absurd (omega arith))))
               (subst (λ (m : ℕ). KnowsAt k S i j (mindOf h b n (withIndex (withOther q other) (q .index + 1))) m) (sym e₁₁)
               (goes-on h b b n 11 11 q (withIndex (withOther q other) (q .index + 1)) refl refl refl refl refl refl (λ z. omega arith) (λ z. omega arith) w₁₁ (rw (add-one (q .index)) w)))
           go false x =
-              already (toTwelve (withOther q other)) refl (held-other other g (y .held))
+              already (toTwelve (withOther q other)) refl (λ d. absurd (d refl)) (held-other other g (y .held))
               (counters-help 12 1 (q .depth) (q .own) (y .counters) busy₁₁ (omega arith) (omega arith) (omega (arith, hk)) (λ z. absurd (omega arith)) (λ z v. omega arith) (λ z. absurd (omega arith)))
               (goes-on h b b n 11 12 q (toTwelve (withOther q other)) refl refl refl refl refl refl (λ z. omega arith) (λ z. omega arith) w₁₁
               (all-noted hk I r (w₁₁ .used) (subst (λ (m : ℕ). Notes k (S j) r (suc m) other) (last (ltb-false (q .index) k x)) w)))

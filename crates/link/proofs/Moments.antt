@@ -18,7 +18,7 @@ use Rattle.process.specs.Process.{restartedOf}
 use Rattle.process.specs.Answer.{goingOn, endingOf}
 use Rattle.points.specs.Help.{helpedL, helpedP, helpedThird}
 use Rattle.history.specs.View.{In, Holds}
-use Rattle.history.specs.Shared.{Shared, Done}
+use Rattle.history.specs.Shared.{Shared, Done, Stands}
 use Rattle.history.specs.Run.{Same, Step, rests, Run, step-swaps}
 use Rattle.history.proofs.Invariant.{Sound}
 use Rattle.history.proofs.Runs.{sound-at}
@@ -58,13 +58,17 @@ pub data Why (k : ℕ) (S : ℕ → Shared) (i j n : ℕ) (q : Process) (a : Ans
   did : q .operation ≢ 1 → a ≡ Yes → In (S j .records) (q .own) → S j .rec (q .own) .process ≡ n → S j .rec (q .own) .operation ≡ q .operation
       → S j .rec (q .own) .key ≡ q .key → Done k (S j .view) (S j .rec (q .own)) (q .own) → Why k S i j n q a
 
+-- the own record, where there is one, does not stand in the tables of b′
+abbrev pub Frees : (ℕ → Header) → (ℕ → List ℕ) → ℕ → Header → List ℕ → Process → Type 0
+Frees hs bs j h′ b′ q = q .own ≢ 0 → ¬ Stands (tablesOf h′ b′ .view) (tables hs bs j .rec (q .own)) (q .own)
+
 -- what the process has after its row: known at this moment already, so to be carried by the step; or at the next; or it has an answer
 pub data Follows (hs : ℕ → Header) (bs : ℕ → List ℕ) (i j n : ℕ) (h′ : Header) (b′ : List ℕ) (q : Process) (s : Stepped) : Type 0 where
-  already : (q′ : Process) → s ≡ goingOn q′ → HeldBy (hs j .k) (tables hs bs j) q′ → CountersBy (hs j .k) q′
+  already : (q′ : Process) → s ≡ goingOn q′ → (q′ .own ≢ q .own → Frees hs bs j h′ b′ q) → HeldBy (hs j .k) (tables hs bs j) q′ → CountersBy (hs j .k) q′
       → KnowsAt (hs j .k) (tables hs bs) i j (mindOf h′ b′ n q′) (q′ .point) → Follows hs bs i j n h′ b′ q s
-  afterwards : (q′ : Process) → s ≡ goingOn q′ → HeldBy (hs j .k) (tablesOf h′ b′) q′ → CountersBy (hs j .k) q′ → 6 ≤ q′ .point
+  afterwards : (q′ : Process) → s ≡ goingOn q′ → (q′ .own ≢ q .own → Frees hs bs j h′ b′ q) → HeldBy (hs j .k) (tablesOf h′ b′) q′ → CountersBy (hs j .k) q′ → 6 ≤ q′ .point
       → Serves (hs j .k) (tablesOf h′ b′) (mindOf h′ b′ n q′) (q′ .point) → Follows hs bs i j n h′ b′ q s
-  answers : (a : Answer) → s ≡ endingOf q a → Why (hs j .k) (tables hs bs) i j n q a → Follows hs bs i j n h′ b′ q s
+  answers : (a : Answer) → s ≡ endingOf q a → Frees hs bs j h′ b′ q → Why (hs j .k) (tables hs bs) i j n q a → Follows hs bs i j n h′ b′ q s
 
 -- whose child swap a step is: of the record helped, at 7 or 13, where the compare holds; else nobody's
 pub data Swapper (hs : ℕ → Header) (bs : ℕ → List ℕ) (j : ℕ) (q : Process) (s′ : Shared) (c : Step (hs j .k) (tables hs bs j) s′) : Type 0 where
@@ -170,7 +174,7 @@ counters-root {k} a c f l = record {
     pos : (m : ℕ) → 0 < 2 ^ m
     pos m = pow-pos m
 
-pub restarts : {hs : ℕ → Header} {bs : ℕ → List ℕ} {i j : ℕ} (n : ℕ) (now : Now hs bs j) (q q₀ : Process) (h′ : Header) (b′ : List ℕ) → i ≤ j → CountersBy (hs j .k) q₀
+pub restarts : {hs : ℕ → Header} {bs : ℕ → List ℕ} {i j : ℕ} (n : ℕ) (now : Now hs bs j) (q q₀ : Process) (h′ : Header) (b′ : List ℕ) → Frees hs bs j h′ b′ q → i ≤ j → CountersBy (hs j .k) q₀
     → Follows hs bs i j n h′ b′ q (goingOn (restartedOf q₀))
-restarts {hs} {bs} {i} {j} n now q q₀ h′ b′ l c =
-    already (restartedOf q₀) refl (held-root now) (counters-root (c .op-low) (c .op-high) (c .finite) (k-low now)) (descends-root now i (mindOf h′ b′ n (restartedOf q₀)) l refl refl)
+restarts {hs} {bs} {i} {j} n now q q₀ h′ b′ free l c =
+    already (restartedOf q₀) refl (λ d. free) (held-root now) (counters-root (c .op-low) (c .op-high) (c .finite) (k-low now)) (descends-root now i (mindOf h′ b′ n (restartedOf q₀)) l refl refl)

@@ -101,7 +101,7 @@ module _ {hs : ℕ → Header} {bs : ℕ → List ℕ} {i j n : ℕ} (now : Now 
   pub turn-1 : q .point ≡ 1 → Turn hs bs i j n q (row1 b h q .sound) (row1 b h q .stepped) (row1 b h q .block)
   unfolding row1
   turn-1 e = quiet now (λ z. absurd (omega arith)) (λ z. absurd (omega arith)) (pending-good b h seen names)
-      (already (withPoint (withPSeen q seen) 2) refl
+      (already (withPoint (withPSeen q seen) 2) refl (λ d. absurd (d refl))
       (record {
         p-used = y .held .p-used;
         p-inner = y .held .p-inner;
@@ -129,10 +129,13 @@ module _ {hs : ℕ → Header} {bs : ℕ → List ℕ} {i j n : ℕ} (now : Now 
   -- a value read before, at depth 0
   module _ (at : q .point ≤ 5) (busy : q .operation ≢ 1) (q₀ : Process) (c : CountersBy k q₀) (w : HeldBy k (S j) q₀) (same : q₀ .operation ≡ q .operation)
       (empty : q₀ .depth ≡ 0) (none : q₀ .own ≡ 0) where
+    own₀ : q₀ .own ≡ q .own
+    own₀ = none ∙ sym (y .counters .early-own at)
+
     pub helps-word : {a v : ℕ} → Read (S j) a v → (top : ℕ) → Follows hs bs i j n h b q (helping top q₀ (pendingOf v))
     helps-word r top =
         helps-on n now q q₀ b top (y .since) c w (λ z. busy (sym same ∙ z)) (subst (λ (x : ℕ). Stacked k (S j) (stackOf h b n) x) (sym empty) stack-empty) (free none)
-        (λ d e. absurd (omega arith)) r (λ m e. record { next = λ d z. absurd (omega arith) })
+        (λ d e. absurd (omega arith)) own₀ (λ z x. absurd (x (y .counters .early-own at))) r (λ m e. record { next = λ d z. absurd (omega arith) })
 
     helps-early : {a : ℕ} (v : Pending) → Read (S j) a (wordOf v) → (top : ℕ) → Follows hs bs i j n h b q (helping top q₀ v)
     helps-early v r top = subst (λ (x : Pending). Follows hs bs i j n h b q (helping top q₀ x)) (pending-word v) (helps-word r top)
@@ -160,7 +163,7 @@ module _ {hs : ℕ → Header} {bs : ℕ → List ℕ} {i j n : ℕ} (now : Now 
     -- an internal child
     down : tagWord b h child ≡ k → Follows hs bs i j n h b q (goingOn (withPoint (descendedOf q child) 1))
     down e =
-        already (withPoint (descendedOf q child) 1) refl
+        already (withPoint (descendedOf q child) 1) refl (λ d. absurd (d refl))
         (record {
           p-used = used;
           p-inner = e;
@@ -216,17 +219,17 @@ module _ {hs : ℕ → Header} {bs : ℕ → List ℕ} {i j n : ℕ} (now : Now 
 
       finds : q .operation ≡ 1 → (t : Bool) → holds (q .key) (keysOf b h child (tagWord b h child)) ≡ t → Follows hs bs i j n h b q (findAt (withL q child) t)
       unfolding pick
-      finds o true e = answers (answer 1) refl (found o refl (leaf-has (k-low now) (now .run) (now .first) (w₂ .way) got not-inner (has e)))
-      finds o false e = answers (answer 0) refl (missing o refl (leaf-lacks (k-low now) (now .run) (now .first) (w₂ .way) got not-inner (lacks e)))
+      finds o true e = answers (answer 1) refl (λ z. absurd (z (y .counters .early-own (omega arith)))) (found o refl (leaf-has (k-low now) (now .run) (now .first) (w₂ .way) got not-inner (has e)))
+      finds o false e = answers (answer 0) refl (λ z. absurd (z (y .counters .early-own (omega arith)))) (missing o refl (leaf-lacks (k-low now) (now .run) (now .first) (w₂ .way) got not-inner (lacks e)))
 
       inserts : q .operation ≡ 2 → (t : Bool) → holds (q .key) (keysOf b h child (tagWord b h child)) ≡ t → Follows hs bs i j n h b q (insertAt (withL q child) t)
       unfolding pick
-      inserts o true e = answers (answer 0) refl (there o refl (y .counters .early-own (omega arith)) (leaf-has (k-low now) (now .run) (now .first) (w₂ .way) got not-inner (has e)))
+      inserts o true e = answers (answer 0) refl (λ z. absurd (z (y .counters .early-own (omega arith)))) (there o refl (y .counters .early-own (omega arith)) (leaf-has (k-low now) (now .run) (now .first) (w₂ .way) got not-inner (has e)))
       inserts o false e = go (isCleanOf (q .pseen)) refl
         where
           four : (c : ℕ) → q .pseen ≡ Clean c → Follows hs bs i j n h b q (goingOn (withPoint (withL q child) 4))
           four c z =
-              already (withPoint (withL q child) 4) refl held
+              already (withPoint (withL q child) 4) refl (λ d. absurd (d refl)) held
               (counters-early 4 (q .index) (q .mask) (y .counters) (omega arith) (omega arith) (omega arith) (λ x. absurd (omega arith)) (λ x v. omega arith) (λ x v. omega arith)
               (y .counters .index-high) (y .counters .mask-high) (λ x. absurd (omega arith)))
               (row-2-replace (mindOf h b n (withPoint (withL q child) 4)) (k-low now) (now .run) (now .first) refl w₂ got fin not-inner c (clean-word (q .pseen) c z) refl refl refl
@@ -239,12 +242,12 @@ module _ {hs : ℕ → Header} {bs : ℕ → List ℕ} {i j n : ℕ} (now : Now 
 
       deletes : q .operation ≡ 3 → (t : Bool) → holds (q .key) (keysOf b h child (tagWord b h child)) ≡ t → Follows hs bs i j n h b q (deleteAt (withL q child) t)
       unfolding pick ones onesIn
-      deletes o false e = answers (answer 0) refl (not-there o refl (y .counters .early-own (omega arith)) (leaf-lacks (k-low now) (now .run) (now .first) (w₂ .way) got not-inner (lacks e)))
+      deletes o false e = answers (answer 0) refl (λ z. absurd (z (y .counters .early-own (omega arith)))) (not-there o refl (y .counters .early-own (omega arith)) (leaf-lacks (k-low now) (now .run) (now .first) (w₂ .way) got not-inner (lacks e)))
       deletes o true e = go (isCleanOf (q .gseen)) refl (isCleanOf (q .pseen)) refl
         where
           three : (c g : ℕ) → q .pseen ≡ Clean c → q .gseen ≡ Clean g → Follows hs bs i j n h b q (goingOn (toThree (withL q child)))
           three c g z x =
-              already (toThree (withL q child)) refl held
+              already (toThree (withL q child)) refl (λ d. absurd (d refl)) held
               (counters-early 3 1 0 (y .counters) (omega arith) (omega arith) (omega arith) (λ v. absurd (omega arith)) (λ v u. omega arith) (λ v u. omega arith)
               (omega (arith, k-low now)) (pow-pos k) (λ v. pow-pos 0))
               (row-2-count (mindOf h b n (toThree (withL q child))) (k-low now) (now .run) (now .first) refl w₂ got fin not-inner c (clean-word (q .pseen) c z) refl refl refl g

@@ -29,7 +29,7 @@ use Rattle.history.proofs.Serving.{serve-replace, serve-prune, serve-mark, serv
 use Rattle.link.specs.Tables.{tablesOf, stackOf}
 use Rattle.link.proofs.Checks.{clean-is, replace-is, prune-is, mark-is}
 use Rattle.link.proofs.Minds.{mindOf, Held, HeldBy, Counters, CountersBy}
-use Rattle.link.proofs.Moments.{tables, Now, Follows, already, k-low, restarts}
+use Rattle.link.proofs.Moments.{tables, Now, Frees, Follows, already, k-low, restarts}
 
 -- helping: the numbers that its points ask for
 pub counters-help : {k operation key point index mask depth own : ℕ} (point′ index′ depth′ own′ : ℕ) → Counters k operation key point index mask depth own → operation ≢ 1
@@ -100,11 +100,11 @@ module _ {hs : ℕ → Header} {bs : ℕ → List ℕ} {i j : ℕ} (n : ℕ) (no
     (c : CountersBy (hs j .k) q₀) (w : HeldBy (hs j .k) (tables hs bs j) q₀) (busy : q₀ .operation ≢ 1)
     (st : Stacked (hs j .k) (tables hs bs j) (stackOf (hs j) b′ n) (q₀ .depth))
     (own : Loose (tables hs bs j) n (q₀ .operation) (q₀ .key) (q₀ .depth) (q₀ .own) (stackOf (hs j) b′ n))
-    (on-top : (d : ℕ) → q₀ .depth ≡ suc d → top ≡ stackOf (hs j) b′ n d) where
+    (on-top : (d : ℕ) → q₀ .depth ≡ suc d → top ≡ stackOf (hs j) b′ n d) (own₀ : q₀ .own ≡ q .own) (free : q₀ .depth ≡ 0 → Frees hs bs j (hs j) b′ q) where
   -- with a stack, to 10 for its top; with none, elsewhere than at 8 and 14, a restart
   pub to-top : (d : ℕ) → q₀ .depth ≡ suc d → Follows hs bs i j n (hs j) b′ q (goingOn (toTen q₀ top))
   to-top d e =
-      already (toTen q₀ top) refl (held-helped top (rw (on-top d e) (st .used d (omega arith) .high)) w)
+      already (toTen q₀ top) refl (λ d. absurd (d own₀)) (held-helped top (rw (on-top d e) (st .used d (omega arith) .high)) w)
       (counters-help 10 (q₀ .index) (q₀ .depth) (q₀ .own) c busy (omega arith) (omega arith) (c .index-high) (λ z. absurd (omega arith)) (λ z y. absurd (omega arith)) (λ z. omega arith))
       (serve-top d e (on-top d e) st (loose-owns (mindOf (hs j) b′ n (toTen q₀ top)) own))
 
@@ -116,7 +116,7 @@ module _ {hs : ℕ → Header} {bs : ℕ → List ℕ} {i j : ℕ} (n : ℕ) (no
       more m z = omega arith
 
       go : Dec (q₀ .depth ≡ 0) → Follows hs bs i j n (hs j) b′ q (helpEnded false top q₀)
-      go (yes e) = rw (eq-eqb (q₀ .depth) 0 e) (restarts n now q q₀ (hs j) b′ since c)
+      go (yes e) = rw (eq-eqb (q₀ .depth) 0 e) (restarts n now q q₀ (hs j) b′ (free e) since c)
       go (no e) = rw (ne-eqb (q₀ .depth) 0 e) (to-top (q₀ .depth - 1) (sym (more (q₀ .depth) e)))
 
   -- a value seen of node a
@@ -135,16 +135,16 @@ module _ {hs : ℕ → Header} {bs : ℕ → List ℕ} {i j : ℕ} (n : ℕ) (no
         go (clean x e o) = by-value (Clean x) (clean-is v x e) ended-early
         go (replacing x e u kd pp) =
             by-value (Replace x) (replace-is v x e)
-            (already (toSix q₀ x) refl (held-helped x (u .high) w)
+            (already (toSix q₀ x) refl (λ d. absurd (d own₀)) (held-helped x (u .high) w)
             (counters-help 6 1 (q₀ .depth) (q₀ .own) c busy (omega arith) (omega arith) (omega arith) (λ z. omega arith) (λ z y. absurd (omega arith)) (λ z. absurd (omega arith)))
             (serve-replace hk x u refl st (loose-owns (mindOf (hs j) b′ n (toSix q₀ x)) own) kd refl))
         go (pruning x e u kd pp) =
             by-value (Prune x) (prune-is v x e)
-            (already (toNine q₀ x) refl (held-helped x (u .high) w)
+            (already (toNine q₀ x) refl (λ d. absurd (d own₀)) (held-helped x (u .high) w)
             (counters-help 9 (q₀ .index) (q₀ .depth) (q₀ .own) c busy (omega arith) (omega arith) (c .index-high) (λ z. absurd (omega arith)) (λ z y. absurd (omega arith)) (λ z. absurd (omega arith)))
             (serve-prune hk x u refl st (loose-owns (mindOf (hs j) b′ n (toNine q₀ x)) own) kd (goes x pp)))
         go (marked x e u kd pp) =
             by-value (Mark x) (mark-is v x e)
-            (already (toEleven q₀ x) refl (held-other 0 (inl refl) (held-helped x (u .high) w))
+            (already (toEleven q₀ x) refl (λ d. absurd (d own₀)) (held-other 0 (inl refl) (held-helped x (u .high) w))
             (counters-help 11 1 (q₀ .depth) (q₀ .own) c busy (omega arith) (omega arith) (omega arith) (λ z. absurd (omega arith)) (λ z y. omega arith) (λ z. absurd (omega arith)))
             (serve-mark hk x u refl st (loose-owns (mindOf (hs j) b′ n (toEleven q₀ x)) own) (kd, rw pp (r .mark x e ∙ e)) refl refl))
