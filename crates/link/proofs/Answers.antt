@@ -6,6 +6,7 @@ use mathlib.Core.Bool.{Bool, true, false}
 use mathlib.Core.List.{List}
 use native.Mathlib.Omega.{arith}
 use native.Mathlib.Decide.{decLt}
+use borrow.Author.Tests.{eq-eqb}
 use Rattle.tables.specs.Choice.{pick}
 use Rattle.tables.specs.declared.header.Header.{Header}
 use Rattle.process.specs.declared.Process.{Process}
@@ -25,8 +26,9 @@ use Rattle.history.proofs.SearchPath.{Moment}
 use Rattle.history.proofs.Runs.{failed-at}
 use Rattle.history.proofs.Quiet.{not-both}
 use Rattle.history.proofs.Swapping.{SwapBetween, swapped-done, failed-never, swap-between}
-use Rattle.link.specs.Events.{Event, start, step, State, taken, stepIn, eventAt, stateAt, blockAt, headerAt, starts, steppedBy, stepsAt, capped, sinceAt}
+use Rattle.link.specs.Events.{Event, start, step, State, taken, stepIn, eventAt, stateAt, blockAt, headerAt, starts, isAnswered, steppedBy, stepsAt, capped, sinceAt}
 use Rattle.link.specs.Swaps.{ChildSwap}
+use Rattle.link.proofs.Checks.{both-is}
 use Rattle.link.proofs.Moments.{tables, Busy, Why, found, missing, there, not-there, no-room, did, Follows}
 use Rattle.link.proofs.Stepping.{turn, step-sound}
 use Rattle.link.proofs.Calls as calls
@@ -128,6 +130,14 @@ module _ {s : State} {es : List Event} (reached : Reached s es) where
     -- 6. The steps that an answer reports are the accepted steps since the start, capped.
     pub steps-counted : c ≡ capped (stepsAt s es n m + 1)
     steps-counted = told .counted ∙ ap stepsUp (its-story .steps) ∙ capped-up (stepsAt s es n m)
+
+    -- this step among them
+    pub steps-all : c ≡ capped (stepsAt s es n (suc m))
+    unfolding pick
+    steps-all = steps-counted ∙ ap capped (sym (steps-next s es m n false true (ap (λ (e : Event). starts (W m) e n) (answered .event)) mine))
+      where
+        mine : steppedBy (W m) (eventAt es m) n ≡ true
+        mine = ap (λ (e : Event). steppedBy (W m) e n) (answered .event) ∙ both-is (eq-eqb n n refl) (ap isAnswered (answered .answer))
 
     -- 5. A find, and an insert or delete answered no, agree with the set at some moment from start to answer.
     pub find-yes : q .operation ≡ 1 → a ≡ Yes → Moment i m (λ t. Holds k (S t .view) (q .key))

@@ -26,3 +26,4 @@ pub mod Outcomes
 pub mod Story
 pub mod Answers
 pub mod Origins
+pub mod Owners

@@ -62,7 +62,7 @@ module _ {s : State} {es : List Event} (reached : Reached s es) where
 
           go : Outcome s es (d .when) → Comes s es m r
           go (nothing e f g) = absurd (none (ap (λ (x : State). x .block) e))
-          go (begun p operation key v z e f f′ g) = absurd (none (ap (λ (x : State). x .block) e))
+          go (begun p operation key v o z e f f′ g) = absurd (none (ap (λ (x : State). x .block) e))
           go (moved n v z b e f g g′) = record {
             when = d .when;
             before = d .before;

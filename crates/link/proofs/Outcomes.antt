@@ -32,7 +32,7 @@ use Rattle.link.proofs.Reached.{Good, Doing, idles, works, state-next, 
 pub data Outcome (s : State) (es : List Event) (m : ℕ) : Type 0 where
   nothing : stateAt s es (suc m) ≡ stateAt s es m → ((p : ℕ) → starts (stateAt s es m) (eventAt es m) p ≡ false)
       → ((p : ℕ) → steppedBy (stateAt s es m) (eventAt es m) p ≡ false) → Outcome s es m
-  begun : (n operation key : ℕ) → In (headerAt s es m .processes) n → eventAt es m ≡ start n operation key
+  begun : (n operation key : ℕ) → In (headerAt s es m .processes) n → taken (stateAt s es m) n .operation ≡ 0 → eventAt es m ≡ start n operation key
       → stateAt s es (suc m) ≡ putBack (stateAt s es m) (blockAt s es m) n (startedAs operation key) → starts (stateAt s es m) (eventAt es m) n ≡ true
       → ((p : ℕ) → p ≢ n → starts (stateAt s es m) (eventAt es m) p ≡ false) → ((p : ℕ) → steppedBy (stateAt s es m) (eventAt es m) p ≡ false) → Outcome s es m
   moved : (n : ℕ) → In (headerAt s es m .processes) n → eventAt es m ≡ step n
@@ -97,7 +97,7 @@ module _ {s : State} {es : List Event} {m : ℕ} (good : Good s es m) where
           nothing (state-next s es m (start n operation key) z ∙ ap (λ (o : Started). putBack (W m) (blockAt s es m) n (o .process)) e ∙ same-state good n)
           (λ p. ap (λ (x : Event). starts (W m) x p) z ∙ ap (λ (o : Started). both (eqb n p) (isAccepted (o .answer))) e ∙ both-no (eqb n p)) no-step
       go (calls.accepted u a c d f e) =
-          begun n operation key u z (state-next s es m (start n operation key) z ∙ ap (λ (o : Started). putBack (W m) (blockAt s es m) n (o .process)) e)
+          begun n operation key u f z (state-next s es m (start n operation key) z ∙ ap (λ (o : Started). putBack (W m) (blockAt s es m) n (o .process)) e)
           (ap (λ (x : Event). starts (W m) x n) z ∙ both-is (eq-eqb n n refl) (ap (λ (o : Started). isAccepted (o .answer)) e))
           (λ p d. ap (λ (x : Event). starts (W m) x p) z ∙ ap (λ (t : Bool). both t (isAccepted (startIn (W m) n operation key .answer))) (ne-eqb n p (λ x. d (sym x))) ∙ no-both _) no-step
 

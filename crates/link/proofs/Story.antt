@@ -227,7 +227,7 @@ module _ {s : State} {es : List Event} (reached : Reached s es) where
       go (nothing e f g) ih =
           let t = ap (λ (x : State). taken x n) e in
           carried m n t (f n) (g n) (no-draw m n (ap (λ (x : State). x .block) e)) (ih (busy-before t))
-      go (begun p operation key v z e f f′ g) ih = at (ℕ-discrete n p)
+      go (begun p operation key v o z e f f′ g) ih = at (ℕ-discrete n p)
         where
           at : Dec (n ≡ p) → Story s es (suc m) n
           at (yes a) =
