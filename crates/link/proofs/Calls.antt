@@ -1,0 +1,98 @@
+-- The two calls on a state whose block fits its header: which are refused, and what the others do.
+use Prim.Native.Nat.{ℕ, zero, suc, _+_, _*_, _-_, _≤_, _<_}
+use mathlib.Core.Path.{_≡_, refl, sym, ap, _∙_, subst}
+use mathlib.Core.Logic.{_≢_, _⊎_, inl, inr}
+use mathlib.Core.Bool.{Bool, true, false, not}
+use mathlib.Core.List.{List}
+use native.Mathlib.Omega.{arith}
+use native.Mathlib.Decide.{ℕ-discrete}
+use lib.Dec.{ltb, leb, eqb}
+use lib.ListN.{length, getD, set}
+use borrow.Author.Tests.{lt-ltb, le-ltb, le-leb, eq-eqb, ne-eqb, eqb-true, eqb-false, not-true, not-false}
+use Rattle.tables.specs.Choice.{pick, both, within, decide}
+use Rattle.tables.specs.Numbers.{infinity, numbersGood}
+use Rattle.tables.specs.Layout.{blockWords}
+use Rattle.tables.specs.Refusal.{refusal}
+use Rattle.tables.specs.declared.numbers.Refusal.the-variants.{TooShort, Damaged}
+use Rattle.tables.specs.Header.{headerOf, headerGood}
+use Rattle.tables.specs.declared.header.Header.{Header}
+use Rattle.tables.proofs.Picks.{within-low, within-high}
+use Rattle.tables.proofs.Limits.{Limits, limits}
+use Rattle.process.specs.declared.Process.{Process}
+use Rattle.process.specs.Process.{startedAs}
+use Rattle.points.specs.Touch.{Out}
+use Rattle.points.specs.Step.{soundStep, noProcess, stepRefused, stepDone, started, startRefused}
+use Rattle.points.specs.declared.start.StartAnswer.the-variants.{Accepted}
+use Rattle.history.specs.View.{In}
+use Rattle.link.specs.Events.{State, taken, startIn, stepIn}
+use Rattle.link.proofs.Writes.{Fit}
+use Rattle.link.proofs.Checks.{both-is, within-is}
+
+pub limits-good : {h : Header} → Limits h → headerGood h ≡ true
+unfolding headerGood numbersGood
+limits-good {h} l =
+    both-is
+    (both-is (within-is 2 (h .k) 8 (l .numbers .k-low) (l .numbers .k-high))
+    (both-is (within-is 1 (h .processes) 32 (l .numbers .processes-low) (l .numbers .processes-high))
+    (both-is (within-is (2 * h .k + 1) (h .nodes) 4096 (l .numbers .nodes-low) (l .numbers .nodes-high)) (within-is 1 (h .records) 4096 (l .numbers .records-low) (l .numbers .records-high)))))
+    (both-is (within-is (2 * h .k + 1) (h .nodesused) (h .nodes) (l .used-low) (l .used-high)) (le-leb (h .recordsused) (h .records) (l .drawn-high)))
+
+module _ (s : State) (fit : Fit (headerOf (s .block)) (s .block)) (rows : headerOf (s .block) .processes ≤ length (s .row)) where
+  abbrev b : List ℕ
+  b = s .block
+
+  abbrev h : Header
+  h = headerOf (s .block)
+
+  t₁ : ltb (length b) 6 ≡ false
+  t₁ = le-ltb (length b) 6 (omega (arith, fit .long))
+
+  t₂ : headerGood h ≡ true
+  t₂ = limits-good (fit .limits)
+
+  t₃ : ltb (length b) (blockWords h) ≡ false
+  t₃ = le-ltb (length b) (blockWords h) (fit .long)
+
+  t₄ : ltb (length (s .row)) (h .processes) ≡ false
+  t₄ = le-ltb (length (s .row)) (h .processes) rows
+
+  -- how a step goes
+  pub data Step (n : ℕ) : Type 0 where
+    unknown : ¬ In (h .processes) n → stepIn s n ≡ stepRefused b (taken s n) 4 → Step n
+    rests : In (h .processes) n → taken s n .operation ≡ 0 → stepIn s n ≡ stepRefused b (taken s n) 8 → Step n
+    works : In (h .processes) n → taken s n .operation ≢ 0 → (soundStep b h n (taken s n) ≡ true → stepIn s n ≡ stepDone b h n (taken s n)) → Step n
+
+  pub step-goes : (n : ℕ) → Step n
+  unfolding pick
+  step-goes n = go (within 1 n (h .processes)) refl (ℕ-discrete (taken s n .operation) 0)
+    where
+      place : within 1 n (h .processes) ≡ true → In (h .processes) n
+      place e = record { low = within-low 1 n (h .processes) e; high = within-high 1 n (h .processes) e }
+
+      outside : within 1 n (h .processes) ≡ false → In (h .processes) n → ⊥
+      outside e u = let z : true ≡ false = sym (within-is 1 n (h .processes) (u .low) (u .high)) ∙ e in let v : _≡_ {A = ℕ} 0 1 = cc in omega arith
+
+      go : (t : Bool) → within 1 n (h .processes) ≡ t → Dec (taken s n .operation ≡ 0) → Step n
+      go false e d = unknown (λ u. outside e u) (rw (t₁, t₂, t₃, t₄, e) refl)
+      go true e (yes z) = rests (place e) z (rw (t₁, t₂, t₃, t₄, e, eq-eqb (taken s n .operation) 0 z) refl)
+      go true e (no z) = works (place e) z (λ x. rw (t₁, t₂, t₃, t₄, e, ne-eqb (taken s n .operation) 0 z, x) refl)
+
+  -- how a start goes
+  pub data Start (n operation key : ℕ) : Type 0 where
+    refused : (r : ℕ) → refusal r ≢ Damaged → refusal r ≢ TooShort → startIn s n operation key ≡ startRefused (taken s n) r → Start n operation key
+    accepted : In (h .processes) n → 1 ≤ operation → operation ≤ 3 → key ≢ infinity → taken s n .operation ≡ 0
+        → startIn s n operation key ≡ started Accepted (startedAs operation key) → Start n operation key
+
+  pub start-goes : (n operation key : ℕ) → Start n operation key
+  unfolding pick
+  start-goes n operation key =
+      go (within 1 n (h .processes)) refl (within 1 operation 3) refl (ℕ-discrete key infinity) (ℕ-discrete (taken s n .operation) 0)
+    where
+      go : (t : Bool) → within 1 n (h .processes) ≡ t → (u : Bool) → within 1 operation 3 ≡ u → Dec (key ≡ infinity) → Dec (taken s n .operation ≡ 0) → Start n operation key
+      go false e u f d z = refused 4 (λ x. let v : _≡_ {A = ℕ} 0 1 = cc in omega arith) (λ x. let v : _≡_ {A = ℕ} 0 1 = cc in omega arith) (rw (t₁, t₂, t₃, t₄, e) refl)
+      go true e false f d z = refused 5 (λ x. let v : _≡_ {A = ℕ} 0 1 = cc in omega arith) (λ x. let v : _≡_ {A = ℕ} 0 1 = cc in omega arith) (rw (t₁, t₂, t₃, t₄, e, f) refl)
+      go true e true f (yes d) z = refused 6 (λ x. let v : _≡_ {A = ℕ} 0 1 = cc in omega arith) (λ x. let v : _≡_ {A = ℕ} 0 1 = cc in omega arith) (rw (t₁, t₂, t₃, t₄, e, f, eq-eqb key infinity d) refl)
+      go true e true f (no d) (no z) = refused 7 (λ x. let v : _≡_ {A = ℕ} 0 1 = cc in omega arith) (λ x. let v : _≡_ {A = ℕ} 0 1 = cc in omega arith) (rw (t₁, t₂, t₃, t₄, e, f, ne-eqb key infinity d, ne-eqb (taken s n .operation) 0 z) refl)
+      go true e true f (no d) (yes z) =
+          accepted (record { low = within-low 1 n (h .processes) e; high = within-high 1 n (h .processes) e }) (within-low 1 operation 3 f) (within-high 1 operation 3 f) d z
+          (rw (t₁, t₂, t₃, t₄, e, f, ne-eqb key infinity d, eq-eqb (taken s n .operation) 0 z) refl)

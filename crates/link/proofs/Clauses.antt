@@ -1,0 +1,220 @@
+-- Over all lists of events from a state at rest: never damaged, search order, and what changes child words and the set.
+use Prim.Native.Nat.{ℕ, zero, suc, _+_, _*_, _-_, _≤_, _<_}
+use mathlib.Core.Path.{_≡_, refl, sym, ap, _∙_, subst}
+use mathlib.Core.Logic.{_≢_, _⊎_, inl, inr}
+use mathlib.Core.Bool.{Bool, true, false}
+use mathlib.Core.List.{List, List·Memᴰ}
+use native.Mathlib.Omega.{arith}
+use native.Mathlib.Decide.{ℕ-discrete}
+use Rattle.tables.specs.Refusal.{refusal}
+use Rattle.tables.specs.declared.header.Header.{Header}
+use Rattle.tables.specs.declared.numbers.Refusal.{Refusal}
+use Rattle.tables.specs.declared.numbers.Refusal.the-variants.{TooShort, Damaged, NoSuchProcess, Idle}
+use Rattle.process.specs.declared.Process.{Process}
+use Rattle.process.specs.declared.Answer.{Answer}
+use Rattle.process.specs.declared.StepAnswer.{StepAnswer}
+use Rattle.process.specs.declared.StepAnswer.the-variants.{GoesOn, Ended, Refused}
+use Rattle.process.specs.declared.Stepped.{Stepped}
+use Rattle.process.specs.Answer.{stepsUp, goingOn, endingOf}
+use Rattle.points.specs.Touch.{Out}
+use Rattle.points.specs.Rows.{rowOf}
+use Rattle.points.specs.Step.{stepDone, stepRefused}
+use Rattle.points.specs.declared.start.StartAnswer.the-variants as start-answers
+use Rattle.points.specs.declared.start.Started.{Started}
+use Rattle.history.specs.View.{In, route, keys, Reach, Below, Holds}
+use Rattle.history.specs.Shared.{Shared}
+use Rattle.history.specs.Effects.{SameSet, SetMoves}
+use Rattle.history.specs.Run.{Step, Run, SwapAt, step-swaps}
+use Rattle.history.proofs.Invariant.{Sound}
+use Rattle.history.proofs.SearchOrder.{figure-3}
+use Rattle.history.proofs.ChildWords.{Moved, kids-same, swap-moves}
+use Rattle.history.proofs.SetLaws.{step-set-same, step-set-swap}
+use Rattle.history.proofs.Lasting.{Grown}
+use Rattle.history.proofs.Walking.{Listing, listing}
+use Rattle.history.proofs.Runs.{sound-at, grown-at}
+use Rattle.history.proofs.Swapping.{SwapBetween, one-swap}
+use Rattle.link.specs.Tables.{tablesOf}
+use Rattle.link.specs.Events.{Event, start, step, State, taken, startIn, stepIn, eventAt, stateAt, blockAt, headerAt, Proper, sinceAt}
+use Rattle.link.specs.Swaps.{ChildSwap}
+use Rattle.link.proofs.Moments.{tables, Now, Busy, Why, Follows, already, afterwards, answers, Turn, k-low}
+use Rattle.link.proofs.Stepping.{turn, step-sound}
+use Rattle.link.proofs.Calls as calls
+use Rattle.link.proofs.Reached.{Good, Doing, idles, works, Kind, no-swap, swap-of, Move, move, good-always}
+use Rattle.link.proofs.Beginning.{Rested, good-rest}
+
+-- the step from moment m, with the k of the whole run
+pub data KindAt (s : State) (es : List Event) (m k : ℕ) (c : Step k (tables (headerAt s es) (blockAt s es) m) (tables (headerAt s es) (blockAt s es) (suc m))) : Type 0 where
+  none-swaps : step-swaps k c ≡ 0 → ((r : ℕ) → ¬ ChildSwap s es m r) → KindAt s es m k c
+  one-swaps : (r : ℕ) → 1 ≤ r → ChildSwap s es m r → step-swaps k c ≡ r → KindAt s es m k c
+
+kind-at : {s : State} {es : List Event} {m : ℕ} {c : Step (headerAt s es m .k) (tables (headerAt s es) (blockAt s es) m) (tables (headerAt s es) (blockAt s es) (suc m))}
+    → Kind s es m c → KindAt s es m (headerAt s es m .k) c
+kind-at (no-swap a b) = none-swaps a b
+kind-at (swap-of r l w e) = one-swaps r l w e
+
+-- a step of a busy process goes on or ends
+pub stepped-says : {hs : ℕ → Header} {bs : ℕ → List ℕ} {i j n : ℕ} {h′ : Header} {b′ : List ℕ} {q : Process} {s : Stepped} → Follows hs bs i j n h′ b′ q s
+    → (s .answer ≡ GoesOn) ⊎ ((a : Answer) × (s .answer ≡ Ended a (stepsUp (q .steps))) × Why (hs j .k) (tables hs bs) i j n q a)
+stepped-says (already q′ e fr x y z) = inl (ap (λ (t : Stepped). t .answer) e)
+stepped-says (afterwards q′ e fr x y l z) = inl (ap (λ (t : Stepped). t .answer) e)
+stepped-says (answers a e fr w) = inr (a, ap (λ (t : Stepped). t .answer) e, w)
+
+-- a state at rest, then events whose keys are words of 32 bits
+pub record Reached (s : State) (es : List Event) : Type 0 where
+  pub rest : Rested s
+  pub proper : (m : ℕ) → Proper (eventAt es m)
+
+module _ {s : State} {es : List Event} (reached : Reached s es) where
+  abbrev W : ℕ → State
+  W = stateAt s es
+
+  abbrev hs : ℕ → Header
+  hs = headerAt s es
+
+  abbrev bs : ℕ → List ℕ
+  bs = blockAt s es
+
+  abbrev S : ℕ → Shared
+  S = tables hs bs
+
+  abbrev k : ℕ
+  k = headerAt s es 0 .k
+
+  pub good : (m : ℕ) → Good s es m
+  good m = good-always (good-rest es (reached .rest)) (reached .proper) m
+
+  pub k-at : (m : ℕ) → hs m .k ≡ k
+  k-at zero = refl
+  k-at (suc m) = move (good m) .k-same ∙ k-at m
+
+  pub processes-at : (m : ℕ) → hs m .processes ≡ hs 0 .processes
+  processes-at zero = refl
+  processes-at (suc m) = move (good m) .processes-same ∙ processes-at m
+
+  moves : (m : ℕ) → (c : Step k (S m) (S (suc m))) × KindAt s es m k c
+  moves m =
+      subst (λ (x : ℕ). (c : Step x (S m) (S (suc m))) × KindAt s es m x c) (k-at m)
+      (move (good m) .step, kind-at (move (good m) .kind))
+
+  pub step-at : (m : ℕ) → Step k (S m) (S (suc m))
+  step-at m = moves m .0
+
+  -- the whole list is a run of the history
+  pub run : (end : ℕ) → Run k S end
+  run end = record { step = λ m l. moves m .0 }
+
+  pub hk : 2 ≤ k
+  hk = k-low (good 0 .now)
+
+  pub sound₀ : Sound k (S 0)
+  sound₀ = good 0 .now .first
+
+  pub sound : (m : ℕ) → Sound k (S m)
+  sound m = sound-at hk (run m) sound₀ m (omega arith)
+
+  -- 1. No step is refused but for an unknown or an idle process; no start as damaged or too short.
+  pub step-refused : (m n : ℕ) (e : Refusal) → stepIn (W m) n .stepped .answer ≡ Refused e → (e ≡ NoSuchProcess) ⊎ (e ≡ Idle)
+  step-refused m n e z = go (calls.step-goes (W m) (good m .now .fit) (good m .rows) n)
+    where
+      same : (d f : Refusal) → Refused d ≡ Refused f → f ≡ d
+      same d f x = cc
+
+      busy : taken (W m) n .operation ≢ 0 → Doing s es m n → Busy hs bs (sinceAt s es n m) m n (taken (W m) n)
+      busy d (idles x) = absurd (d x)
+      busy d (works y) = y
+
+      says : (t : Stepped) → stepIn (W m) n .stepped ≡ t → (t .answer ≡ GoesOn) ⊎ ((a : Answer) × (t .answer ≡ Ended a (stepsUp (taken (W m) n .steps))) × Why (hs m .k) S (sinceAt s es n m) m n (taken (W m) n) a) → ⊥
+      says t x (inl g) = let v : GoesOn ≡ Refused e = sym g ∙ ap (λ (u : Stepped). u .answer) (sym x) ∙ z in let w : _≡_ {A = ℕ} 0 1 = cc in omega arith
+      says t x (inr g) =
+          let v : Ended (g .0) (stepsUp (taken (W m) n .steps)) ≡ Refused e = sym (g .1) ∙ ap (λ (u : Stepped). u .answer) (sym x) ∙ z in
+          let w : _≡_ {A = ℕ} 0 1 = cc in omega arith
+
+      go : calls.Step (W m) (good m .now .fit) (good m .rows) n → (e ≡ NoSuchProcess) ⊎ (e ≡ Idle)
+      go (calls.unknown d x) = inl (same NoSuchProcess e (sym (ap (λ (o : Out). o .stepped .answer) x) ∙ z))
+      go (calls.rests u d x) = inr (same Idle e (sym (ap (λ (o : Out). o .stepped .answer) x) ∙ z))
+      go (calls.works u d f) =
+          let y = busy d (good m .each n u) in
+          absurd (says (rowOf (bs m) (hs m) n (taken (W m) n) .stepped) (ap (λ (o : Out). o .stepped) (f (step-sound (good m .now) (taken (W m) n) y)))
+          (stepped-says (turn (good m .now) (taken (W m) n) y .follows)))
+
+  pub start-refused : (m n operation key : ℕ) (e : Refusal) → startIn (W m) n operation key .answer ≡ start-answers.Refused e → (e ≢ Damaged) × (e ≢ TooShort)
+  start-refused m n operation key e z = go (calls.start-goes (W m) (good m .now .fit) (good m .rows) n operation key)
+    where
+      same : (d f : Refusal) → start-answers.Refused d ≡ start-answers.Refused f → f ≡ d
+      same d f x = cc
+
+      go : calls.Start (W m) (good m .now .fit) (good m .rows) n operation key → (e ≢ Damaged) × (e ≢ TooShort)
+      go (calls.refused r d f x) =
+          let v : e ≡ refusal r = same (refusal r) e (sym (ap (λ (o : Started). o .answer) x) ∙ z) in
+          ((λ a. d (sym v ∙ a)), (λ a. f (sym v ∙ a)))
+      go (calls.accepted u a c d f x) =
+          let v : start-answers.Accepted ≡ start-answers.Refused e = sym (ap (λ (o : Started). o .answer) x) ∙ z in
+          let w : _≡_ {A = ℕ} 0 1 = cc in absurd (omega arith)
+
+  -- 2. Figure 3: a key in a leaf below child i of an internal node of the tree goes by child i
+  pub search-order : (m n i l x : ℕ) → Reach k (S m .view) n → S m .view .tag n ≡ k → In k i → Below k (S m .view) (S m .view .child n i) l
+      → S m .view .tag l ≢ k → List·Memᴰ x (keys (S m .view) l) → route k (S m .view .key n) x ≡ i
+  search-order m = figure-3 (omega (arith, hk)) (sound m .inv .uniq) (sound m .inv .ordered)
+
+  -- the walk of the history over the tables of a moment never runs out, and lists exactly the set, ascending
+  pub lists : (m deep left : ℕ) → S m .nodes ≤ deep → S m .nodes ≤ left → Listing k (S m) deep left
+  lists m deep left a c = listing deep left hk (sound m) a c
+
+  -- 3. A child word of a node in use changes at an event exactly when it is a child swap
+  pub kids-stay : (m : ℕ) → ((r : ℕ) → ¬ ChildSwap s es m r) → (n j : ℕ) → In (S m .nodes) n → In k j → S (suc m) .view .child n j ≡ S m .view .child n j
+  kids-stay m f n j u i = go (moves m .1)
+    where
+      go : KindAt s es m k (moves m .0) → S (suc m) .view .child n j ≡ S m .view .child n j
+      go (none-swaps e d) = kids-same hk (sound m) (moves m .0) e n j u i
+      go (one-swaps r l w e) = absurd (f r w)
+
+  -- the record of a child swap is the one of the step
+  swap-is : (m r : ℕ) → ChildSwap s es m r → (step-swaps k (moves m .0) ≡ r) × (1 ≤ r)
+  swap-is m r w = go (moves m .1)
+    where
+      event-same : (n p : ℕ) → step n ≡ step p → n ≡ p
+      event-same n p e = cc
+
+      go : KindAt s es m k (moves m .0) → (step-swaps k (moves m .0) ≡ r) × (1 ≤ r)
+      go (none-swaps e d) = absurd (d r w)
+      go (one-swaps x l v e) =
+          let z : v .process ≡ w .process = event-same (v .process) (w .process) (sym (v .event) ∙ w .event) in
+          let a : x ≡ r = sym (v .helps) ∙ ap (λ (p : ℕ). taken (W m) p .helped) z ∙ w .helps in
+          (e ∙ a, omega arith)
+
+  pub swap-changes : (m r : ℕ) → ChildSwap s es m r → Moved k (S m) (S (suc m))
+  swap-changes m r w = let z = swap-is m r w in swap-moves hk (sound m) (moves m .0) (omega (arith, z .0, z .1))
+
+  -- the set changes only at a child swap, and by the key of its record: put in by an insert, taken out by a delete
+  pub set-stays : (m : ℕ) → ((r : ℕ) → ¬ ChildSwap s es m r) → SameSet k (S m .view) (S (suc m) .view)
+  set-stays m f = go (moves m .1)
+    where
+      go : KindAt s es m k (moves m .0) → SameSet k (S m .view) (S (suc m) .view)
+      go (none-swaps e d) = step-set-same hk (sound m) (moves m .0) e
+      go (one-swaps r l w e) = absurd (f r w)
+
+  pub set-changes : (m r : ℕ) → ChildSwap s es m r → SetMoves k (S m .view) (S (suc m) .view) (S m .rec r)
+  set-changes m r w = let z = swap-is m r w in step-set-swap hk (sound m) (moves m .0) r (z .0) (z .1)
+
+  -- as the history says it
+  pub swap-at : (m r : ℕ) → ChildSwap s es m r → SwapAt k S r m × (1 ≤ r)
+  swap-at m r w = let z = swap-is m r w in (record { step = moves m .0; is = z .0 }, z .1)
+
+  pub swap-event : (end r i j : ℕ) (w : SwapBetween k S end (run end) r i j) → 1 ≤ r → ChildSwap s es (w .when) r
+  unfolding run
+  swap-event end r i j w l = go (moves (w .when) .1)
+    where
+      go : KindAt s es (w .when) k (moves (w .when) .0) → ChildSwap s es (w .when) r
+      go (none-swaps e d) = absurd (omega (arith, w .is, e))
+      go (one-swaps x a v e) = subst (λ (y : ℕ). ChildSwap s es (w .when) y) (sym e ∙ w .is) v
+
+  -- each record has at most one
+  pub swaps-once : (m m′ r : ℕ) → ChildSwap s es m r → ChildSwap s es m′ r → m ≡ m′
+  swaps-once m m′ r w w′ =
+      let z = swap-is m r w in
+      let z′ = swap-is m′ r w′ in
+      one-swap hk (run (suc (m + m′))) sound₀ m m′ r (z .1) (omega arith) (omega arith) (record { step = moves m .0; is = z .0 }) (record { step = moves m′ .0; is = z′ .0 })
+
+  -- 7. Tags and keys of nodes in use and all words of records in use never change; used counts never fall
+  pub grows : (i j : ℕ) → i ≤ j → Grown (S i) (S j)
+  grows i j l = grown-at hk (run j) sound₀ i j l (omega arith)

@@ -1,0 +1,109 @@
+-- Every record in use comes from an operation: which step drew it, and the start that the step goes back to.
+use Prim.Native.Nat.{ℕ, zero, suc, _+_, _-_, _≤_, _<_}
+use mathlib.Core.Path.{_≡_, refl, sym, ap, _∙_, subst}
+use mathlib.Core.Logic.{_≢_, _⊎_, inl, inr}
+use mathlib.Core.Bool.{Bool, true, false}
+use mathlib.Core.List.{List}
+use native.Mathlib.Omega.{arith}
+use lib.ListN.{length}
+use Rattle.tables.specs.Numbers.{kStored, numbersGood}
+use Rattle.tables.specs.Layout.{blockWords}
+use Rattle.tables.specs.Header.{headerOf}
+use Rattle.tables.specs.Fresh.{freshHeader}
+use Rattle.tables.specs.declared.header.Header.{Header}
+use Rattle.process.specs.declared.Process.{Process}
+use Rattle.points.specs.Rows.{rowOf}
+use Rattle.points.specs.Step.{stepDone}
+use Rattle.history.specs.View.{In}
+use Rattle.history.specs.Shared.{Desc, Shared}
+use Rattle.history.specs.Effects.{SetMoves}
+use Rattle.history.proofs.Swapping.{DrawnAt, drawn-between}
+use Rattle.history.proofs.Lasting.{Grown}
+use Rattle.link.specs.Tables.{descOf}
+use Rattle.link.specs.Events.{Event, step, State, taken, stepIn, eventAt, stateAt, blockAt, headerAt, sinceAt, Proper, freshState}
+use Rattle.link.specs.Swaps.{ChildSwap}
+use Rattle.link.proofs.Moments.{tables, Busy}
+use Rattle.link.proofs.Reached.{its-turn, taken-own, state-is, block-is, header-is}
+use Rattle.link.proofs.Outcomes.{Outcome, nothing, begun, moved, outcome}
+use Rattle.link.proofs.Beginning.{fresh-rested}
+use Rattle.link.proofs.Clauses.{Reached, good, hk, run, sound₀, grows, set-changes, swap-at}
+use Rattle.link.proofs.Story.{Story, story}
+
+-- record r, as it stands at moment m: the step that drew it, and the operation and key that it was drawn for
+pub record Comes (s : State) (es : List Event) (m r : ℕ) : Type 0 where
+  pub when : ℕ
+  pub before : when < m
+  pub n : ℕ
+  pub place : In (headerAt s es when .processes) n
+  pub event : eventAt es when ≡ step n
+  pub busy : taken (stateAt s es when) n .operation ≢ 0
+  pub next : r ≡ tables (headerAt s es) (blockAt s es) when .records + 1
+  pub process : tables (headerAt s es) (blockAt s es) m .rec r .process ≡ n
+  pub operation : tables (headerAt s es) (blockAt s es) m .rec r .operation ≡ taken (stateAt s es when) n .operation
+  pub key : tables (headerAt s es) (blockAt s es) m .rec r .key ≡ taken (stateAt s es when) n .key
+  pub own : taken (stateAt s es (suc when)) n .own ≡ r
+
+module _ {s : State} {es : List Event} (reached : Reached s es) where
+  abbrev W : ℕ → State
+  W = stateAt s es
+
+  abbrev S : ℕ → Shared
+  S = tables (headerAt s es) (blockAt s es)
+
+  pub comes : (m r : ℕ) → In (S m .records) r → Comes s es m r
+  unfolding stateAt
+  comes m r u = from (drawn-between (hk reached) (run reached m) (sound₀ reached) 0 m r (omega arith) (omega arith) (omega (arith, reached .rest .rest .no-record, u .low)) (u .high))
+    where
+      from : DrawnAt S r 0 m → Comes s es m r
+      from d = go (outcome (good reached (d .when)))
+        where
+          none : blockAt s es (suc (d .when)) ≡ blockAt s es (d .when) → ⊥
+          none e = let x : S (suc (d .when)) .records ≡ S (d .when) .records = ap (λ (v : List ℕ). headerOf v .recordsused) e in omega (arith, d .next, d .drawn)
+
+          go : Outcome s es (d .when) → Comes s es m r
+          go (nothing e f g) = absurd (none (ap (λ (x : State). x .block) e))
+          go (begun p operation key v o z e f f′ g) = absurd (none (ap (λ (x : State). x .block) e))
+          go (moved n v z b e f g g′) = record {
+            when = d .when;
+            before = d .before;
+            n = n;
+            place = v;
+            event = z;
+            busy = λ x. omega (arith, b .counters .op-low);
+            next = d .next;
+            process = ap (λ (x : Desc). x .process) later ∙ by .0;
+            operation = ap (λ (x : Desc). x .operation) later ∙ by .2;
+            key = ap (λ (x : Desc). x .key) later ∙ by .3;
+            own = ap (λ (x : Process). x .own) (taken-own (good reached (d .when)) n row-block row-process (state-is (good reached (d .when)) n v z b e) v) ∙ by .1;
+          }
+            where
+              row-block : List ℕ
+              row-block = rowOf (blockAt s es (d .when)) (headerAt s es (d .when)) n (taken (W (d .when)) n) .block
+
+              row-process : Process
+              row-process = rowOf (blockAt s es (d .when)) (headerAt s es (d .when)) n (taken (W (d .when)) n) .stepped .process
+
+              used-is : headerAt s es (suc (d .when)) .recordsused ≡ its-turn (good reached (d .when)) n v z b e .h′ .recordsused
+              used-is = ap (λ (x : Header). x .recordsused) (header-is (good reached (d .when)) n v z b e)
+
+              by : (descOf (its-turn (good reached (d .when)) n v z b e .h′) (rowOf (blockAt s es (d .when)) (headerAt s es (d .when)) n (taken (W (d .when)) n) .block) r .process ≡ n)
+                  × (rowOf (blockAt s es (d .when)) (headerAt s es (d .when)) n (taken (W (d .when)) n) .stepped .process .own ≡ r)
+                  × (descOf (its-turn (good reached (d .when)) n v z b e .h′) (rowOf (blockAt s es (d .when)) (headerAt s es (d .when)) n (taken (W (d .when)) n) .block) r .operation ≡ taken (W (d .when)) n .operation)
+                  × (descOf (its-turn (good reached (d .when)) n v z b e .h′) (rowOf (blockAt s es (d .when)) (headerAt s es (d .when)) n (taken (W (d .when)) n) .block) r .key ≡ taken (W (d .when)) n .key)
+              by = its-turn (good reached (d .when)) n v z b e .drawn-by r (omega (arith, d .next)) (omega (arith, d .drawn, used-is))
+
+              later : S m .rec r ≡ descOf (its-turn (good reached (d .when)) n v z b e .h′) (rowOf (blockAt s es (d .when)) (headerAt s es (d .when)) n (taken (W (d .when)) n) .block) r
+              later =
+                  grows reached (suc (d .when)) m (d .before) .rec-same r (omega (arith, u .low, d .drawn))
+                  ∙ ap (λ (x : List ℕ). descOf (headerAt s es (suc (d .when))) x r) (block-is (good reached (d .when)) n v z b e)
+                  ∙ ap (λ (x : Header). descOf x (rowOf (blockAt s es (d .when)) (headerAt s es (d .when)) n (taken (W (d .when)) n) .block) r) (header-is (good reached (d .when)) n v z b e)
+
+  -- the start behind a record
+  pub started-by : (m r : ℕ) (u : In (S m .records) r) → Story s es (comes m r u .when) (comes m r u .n)
+  started-by m r u = story reached (comes m r u .when) (comes m r u .n) (comes m r u .place) (comes m r u .busy)
+
+-- the fresh tree, then events
+pub reached-fresh : (k processes nodes records : ℕ) (b : List ℕ) (row : List Process) (es : List Event) → numbersGood (kStored k) processes nodes records ≡ true
+    → blockWords (freshHeader k processes nodes records) ≤ length b → processes ≤ length row → ((m : ℕ) → Proper (eventAt es m))
+    → Reached (freshState k processes nodes records b row) es
+reached-fresh k processes nodes records b row es good long rows proper = record { rest = fresh-rested k processes nodes records good b long row rows; proper = proper }

@@ -1,0 +1,105 @@
+-- What an event does, in one of three ways: nothing; an accepted start; an accepted step.
+use Prim.Native.Nat.{ℕ, zero, suc, _+_, _-_, _≤_, _<_}
+use mathlib.Core.Path.{_≡_, refl, sym, ap, _∙_, subst}
+use mathlib.Core.Logic.{_≢_, _⊎_, inl, inr}
+use mathlib.Core.Bool.{Bool, true, false}
+use mathlib.Core.List.{List}
+use native.Mathlib.Omega.{arith}
+use lib.Dec.{eqb}
+use borrow.Author.Tests.{eq-eqb, ne-eqb}
+use Rattle.tables.specs.Choice.{pick, both}
+use Rattle.tables.specs.declared.header.Header.{Header}
+use Rattle.process.specs.declared.Process.{Process}
+use Rattle.process.specs.declared.Answer.{Answer}
+use Rattle.process.specs.declared.StepAnswer.{StepAnswer}
+use Rattle.process.specs.declared.StepAnswer.the-variants.{GoesOn, Ended, Refused}
+use Rattle.process.specs.declared.Stepped.{Stepped}
+use Rattle.process.specs.Process.{startedAs}
+use Rattle.process.specs.Answer.{stepsUp}
+use Rattle.points.specs.Touch.{Out}
+use Rattle.points.specs.Rows.{rowOf}
+use Rattle.points.specs.Step.{stepDone, stepRefused, started}
+use Rattle.points.specs.declared.start.StartAnswer.the-variants.{Accepted}
+use Rattle.points.specs.declared.start.Started.{Started}
+use Rattle.history.specs.View.{In}
+use Rattle.link.specs.Events.{Event, start, step, State, taken, startIn, stepIn, putBack, after, eventAt, stateAt, blockAt, headerAt, Proper, isAccepted, starts, isAnswered, steppedBy, sinceAt}
+use Rattle.link.proofs.Checks.{both-is}
+use Rattle.link.proofs.Moments.{tables, Now, Busy, Why, Follows, already, afterwards, answers}
+use Rattle.link.proofs.Stepping.{turn, step-sound}
+use Rattle.link.proofs.Calls as calls
+use Rattle.link.proofs.Reached.{Good, Doing, idles, works, state-next, same-state}
+
+pub data Outcome (s : State) (es : List Event) (m : ℕ) : Type 0 where
+  nothing : stateAt s es (suc m) ≡ stateAt s es m → ((p : ℕ) → starts (stateAt s es m) (eventAt es m) p ≡ false)
+      → ((p : ℕ) → steppedBy (stateAt s es m) (eventAt es m) p ≡ false) → Outcome s es m
+  begun : (n operation key : ℕ) → In (headerAt s es m .processes) n → taken (stateAt s es m) n .operation ≡ 0 → eventAt es m ≡ start n operation key
+      → stateAt s es (suc m) ≡ putBack (stateAt s es m) (blockAt s es m) n (startedAs operation key) → starts (stateAt s es m) (eventAt es m) n ≡ true
+      → ((p : ℕ) → p ≢ n → starts (stateAt s es m) (eventAt es m) p ≡ false) → ((p : ℕ) → steppedBy (stateAt s es m) (eventAt es m) p ≡ false) → Outcome s es m
+  moved : (n : ℕ) → In (headerAt s es m .processes) n → eventAt es m ≡ step n
+      → Busy (headerAt s es) (blockAt s es) (sinceAt s es n m) m n (taken (stateAt s es m) n)
+      → stepIn (stateAt s es m) n ≡ stepDone (blockAt s es m) (headerAt s es m) n (taken (stateAt s es m) n)
+      → ((p : ℕ) → starts (stateAt s es m) (eventAt es m) p ≡ false) → steppedBy (stateAt s es m) (eventAt es m) n ≡ true
+      → ((p : ℕ) → p ≢ n → steppedBy (stateAt s es m) (eventAt es m) p ≡ false) → Outcome s es m
+
+both-no : (t : Bool) → both t false ≡ false
+unfolding both
+both-no true = refl
+both-no false = refl
+
+no-both : (t : Bool) → both false t ≡ false
+unfolding both
+no-both t = refl
+
+follows-answered : {hs : ℕ → Header} {bs : ℕ → List ℕ} {i j n : ℕ} {h′ : Header} {b′ : List ℕ} {q : Process} {s : Stepped} → Follows hs bs i j n h′ b′ q s
+    → isAnswered (s .answer) ≡ true
+follows-answered (already q′ e fr x y z) = ap (λ (t : Stepped). isAnswered (t .answer)) e
+follows-answered (afterwards q′ e fr x y l z) = ap (λ (t : Stepped). isAnswered (t .answer)) e
+follows-answered (answers a e fr w) = ap (λ (t : Stepped). isAnswered (t .answer)) e
+
+module _ {s : State} {es : List Event} {m : ℕ} (good : Good s es m) where
+  abbrev W : ℕ → State
+  W = stateAt s es
+
+  by : (e : Event) → eventAt es m ≡ e → Outcome s es m
+  by (step n) z = go (calls.step-goes (W m) (good .now .fit) (good .rows) n)
+    where
+      no-start : (p : ℕ) → starts (W m) (eventAt es m) p ≡ false
+      no-start p = ap (λ (e : Event). starts (W m) e p) z
+
+      refused : (r : ℕ) → stepIn (W m) n ≡ stepRefused (blockAt s es m) (taken (W m) n) r → Outcome s es m
+      refused r e =
+          nothing (state-next s es m (step n) z ∙ ap (λ (o : Out). putBack (W m) (o .block) n (o .stepped .process)) e ∙ same-state good n) no-start
+          (λ p. ap (λ (x : Event). steppedBy (W m) x p) z ∙ ap (λ (o : Out). both (eqb n p) (isAnswered (o .stepped .answer))) e ∙ both-no (eqb n p))
+
+      busy : taken (W m) n .operation ≢ 0 → Doing s es m n → Busy (headerAt s es) (blockAt s es) (sinceAt s es n m) m n (taken (W m) n)
+      busy d (idles e) = absurd (d e)
+      busy d (works y) = y
+
+      done : In (headerAt s es m .processes) n → Busy (headerAt s es) (blockAt s es) (sinceAt s es n m) m n (taken (W m) n)
+          → stepIn (W m) n ≡ stepDone (blockAt s es m) (headerAt s es m) n (taken (W m) n) → Outcome s es m
+      done u y e =
+          moved n u z y e no-start
+          (ap (λ (x : Event). steppedBy (W m) x n) z ∙ both-is (eq-eqb n n refl)
+          (ap (λ (o : Out). isAnswered (o .stepped .answer)) e ∙ follows-answered (turn (good .now) (taken (W m) n) y .follows)))
+          (λ p d. ap (λ (x : Event). steppedBy (W m) x p) z ∙ ap (λ (t : Bool). both t (isAnswered (stepIn (W m) n .stepped .answer))) (ne-eqb n p (λ x. d (sym x))) ∙ no-both _)
+
+      go : calls.Step (W m) (good .now .fit) (good .rows) n → Outcome s es m
+      go (calls.unknown d e) = refused 4 e
+      go (calls.rests u d e) = refused 8 e
+      go (calls.works u d f) = let y = busy d (good .each n u) in done u y (f (step-sound (good .now) (taken (W m) n) y))
+  by (start n operation key) z = go (calls.start-goes (W m) (good .now .fit) (good .rows) n operation key)
+    where
+      no-step : (p : ℕ) → steppedBy (W m) (eventAt es m) p ≡ false
+      no-step p = ap (λ (e : Event). steppedBy (W m) e p) z
+
+      go : calls.Start (W m) (good .now .fit) (good .rows) n operation key → Outcome s es m
+      go (calls.refused r d f e) =
+          nothing (state-next s es m (start n operation key) z ∙ ap (λ (o : Started). putBack (W m) (blockAt s es m) n (o .process)) e ∙ same-state good n)
+          (λ p. ap (λ (x : Event). starts (W m) x p) z ∙ ap (λ (o : Started). both (eqb n p) (isAccepted (o .answer))) e ∙ both-no (eqb n p)) no-step
+      go (calls.accepted u a c d f e) =
+          begun n operation key u f z (state-next s es m (start n operation key) z ∙ ap (λ (o : Started). putBack (W m) (blockAt s es m) n (o .process)) e)
+          (ap (λ (x : Event). starts (W m) x n) z ∙ both-is (eq-eqb n n refl) (ap (λ (o : Started). isAccepted (o .answer)) e))
+          (λ p d. ap (λ (x : Event). starts (W m) x p) z ∙ ap (λ (t : Bool). both t (isAccepted (startIn (W m) n operation key .answer))) (ne-eqb n p (λ x. d (sym x))) ∙ no-both _) no-step
+
+  pub outcome : Outcome s es m
+  outcome = by (eventAt es m) refl

@@ -1,0 +1,351 @@
+-- Every moment of a list of events keeps the invariant of the real state, and no event is refused as damaged.
+use Prim.Native.Nat.{ℕ, zero, suc, _+_, _*_, _-_, _≤_, _<_}
+use mathlib.Core.Path.{_≡_, refl, sym, ap, _∙_, subst}
+use mathlib.Core.Logic.{_≢_, _⊎_, inl, inr}
+use mathlib.Core.Bool.{Bool, true, false, not}
+use mathlib.Core.List.{List}
+use native.Mathlib.Omega.{arith}
+use native.Mathlib.Decide.{ℕ-discrete}
+use lib.Dec.{eqb}
+use lib.ListN.{length, getD, set, length-set}
+use lib.Seq.{set-getD, getD-set-same, getD-set-other}
+use borrow.Author.Tests.{eq-eqb, ne-eqb}
+use Rattle.tables.specs.Choice.{pick, both}
+use Rattle.tables.specs.Numbers.{infinity}
+use Rattle.tables.specs.Layout.{childWord}
+use Rattle.tables.specs.Header.{headerOf}
+use Rattle.tables.specs.declared.header.Header.{Header}
+use Rattle.process.specs.declared.Process.{Process}
+use Rattle.process.specs.declared.Stepped.{Stepped}
+use Rattle.process.specs.Process.{idle, startedAs}
+use Rattle.points.specs.Touch.{Out}
+use Rattle.points.specs.Rows.{rowOf}
+use Rattle.points.specs.Step.{stepDone, stepRefused, started, startRefused}
+use Rattle.points.specs.declared.start.StartAnswer.the-variants.{Accepted}
+use Rattle.points.specs.declared.start.Started.{Started}
+use Rattle.points.specs.Help.{helpedL, helpedP, helpedThird}
+use Rattle.history.specs.View.{In}
+use Rattle.history.specs.Run.{Step, step-swaps}
+use Rattle.link.specs.Tables.{tablesOf}
+use Rattle.link.specs.Events.{Event, start, step, State, taken, startIn, stepIn, putBack, after, eventAt, stateAt, blockAt, headerAt, Proper, isAccepted, starts, sinceAt}
+use Rattle.link.specs.Swaps.{Swapping, seven, thirteen, ChildSwap}
+use Rattle.link.proofs.Checks.{both-is}
+use Rattle.link.proofs.Minds.{mindOf}
+use Rattle.link.proofs.Moments.{tables, Now, Busy, Swapper, at-7, at-13, nobody, Turn, same-self, same-none, k-low, now-sound, held-root, descends-root, counters-root}
+use Rattle.link.proofs.Searching.{known}
+use Rattle.link.proofs.Stepping.{turn, step-sound}
+use Rattle.link.proofs.Carry.{Shift, turn-shift, shift-self, shift-to, follows-to, now-next, place-back, busy-next, busy-own}
+use Rattle.link.proofs.Calls as calls
+
+-- what process n is doing at moment m
+pub data Doing (s : State) (es : List Event) (m n : ℕ) : Type 0 where
+  idles : taken (stateAt s es m) n .operation ≡ 0 → Doing s es m n
+  works : Busy (headerAt s es) (blockAt s es) (sinceAt s es n m) m n (taken (stateAt s es m) n) → Doing s es m n
+
+-- the invariant of the real state at moment m
+pub record Good (s : State) (es : List Event) (m : ℕ) : Type 0 where
+  pub now : Now (headerAt s es) (blockAt s es) m
+  pub rows : headerAt s es m .processes ≤ length (stateAt s es m .row)
+  pub each : (n : ℕ) → In (headerAt s es m .processes) n → Doing s es m n
+
+pub state-next : (s : State) (es : List Event) (m : ℕ) (e : Event) → eventAt es m ≡ e → stateAt s es (suc m) ≡ after (stateAt s es m) e
+unfolding stateAt
+state-next s es m e z = ap (after (stateAt s es m)) z
+
+pub since-next : (s : State) (es : List Event) (m n : ℕ) (e : Event) (t : Bool) → eventAt es m ≡ e → starts (stateAt s es m) e n ≡ t
+    → sinceAt s es n (suc m) ≡ pick t (suc m) (sinceAt s es n m)
+unfolding sinceAt
+since-next s es m n e t z f = ap (λ (u : Bool). pick u (suc m) (sinceAt s es n m)) (ap (λ (x : Event). starts (stateAt s es m) x n) z ∙ f)
+
+pub since-stays : (s : State) (es : List Event) (m n : ℕ) (e : Event) → eventAt es m ≡ e → starts (stateAt s es m) e n ≡ false → sinceAt s es n (suc m) ≡ sinceAt s es n m
+unfolding pick
+since-stays s es m n e z f = since-next s es m n e false z f
+
+both-false : (t : Bool) → both t false ≡ false
+unfolding both
+both-false true = refl
+both-false false = refl
+
+module _ {s : State} {es : List Event} {m : ℕ} (good : Good s es m) where
+  abbrev hs : ℕ → Header
+  hs = headerAt s es
+
+  abbrev bs : ℕ → List ℕ
+  bs = blockAt s es
+
+  abbrev W : ℕ → State
+  W = stateAt s es
+
+  -- a process that the event leaves alone
+  module _ {n : ℕ} (sh : Shift hs bs m n (hs (suc m)) (bs (suc m))) where
+    doing-next : (p : ℕ) → p ≢ n → taken (W (suc m)) p ≡ taken (W m) p → sinceAt s es p (suc m) ≡ sinceAt s es p m → Doing s es m p → Doing s es (suc m) p
+    doing-next p d e f (idles z) = idles (ap (λ (x : Process). x .operation) e ∙ z)
+    doing-next p d e f (works y) =
+        works (subst (λ (x : Process). Busy hs bs (sinceAt s es p (suc m)) (suc m) p x) (sym e)
+        (subst (λ (x : ℕ). Busy hs bs x (suc m) p (taken (W m) p)) (sym f) (busy-next (good .now) sh (taken (W m) p) d y)))
+
+  -- an event that leaves everything alone
+  still : W (suc m) ≡ W m → ((p : ℕ) → sinceAt s es p (suc m) ≡ sinceAt s es p m) → Good s es (suc m)
+  still e f = record {
+    now = now-next (good .now) sh;
+    rows = subst (λ (x : State). headerOf (x .block) .processes ≤ length (x .row)) (sym e) (good .rows);
+    each = λ p u. doing-next sh p (λ z. omega (arith, u .low)) (ap (λ (x : State). taken x p) e) (f p) (good .each p (place-back (good .now) sh u));
+  }
+    where
+      sh : Shift hs bs m 0 (hs (suc m)) (bs (suc m))
+      sh = shift-to {hs = hs} {bs = bs} {j = m} {h′ = hs m} {b′ = bs m} (ap (λ (x : State). headerOf (x .block)) e) (ap (λ (x : State). x .block) e) (shift-self 0 (good .now))
+
+  -- the row with one record put back
+  module _ (n : ℕ) (b′ : List ℕ) (q′ : Process) (e : W (suc m) ≡ putBack (W m) b′ n q′) (u : In (hs m .processes) n) where
+    pub taken-own : taken (W (suc m)) n ≡ q′
+    taken-own = ap (λ (x : State). taken x n) e ∙ getD-set-same (W m .row) (n - 1) q′ idle (omega (arith, u, good .rows))
+
+    pub taken-other : (p : ℕ) → 1 ≤ p → p ≢ n → taken (W (suc m)) p ≡ taken (W m) p
+    taken-other p l d = ap (λ (x : State). taken x p) e ∙ getD-set-other (W m .row) (n - 1) (p - 1) q′ idle (λ z. d (omega (arith, u)))
+
+    rows-next : hs (suc m) .processes ≡ hs m .processes → hs (suc m) .processes ≤ length (W (suc m) .row)
+    rows-next z =
+        let l : length (W (suc m) .row) ≡ length (W m .row) = ap (λ (x : State). length (x .row)) e ∙ simp length-set in
+        omega (arith, good .rows)
+
+  -- a step that is done
+  module _ (n : ℕ) (u : In (hs m .processes) n) (z : eventAt es m ≡ step n) (y : Busy hs bs (sinceAt s es n m) m n (taken (W m) n))
+      (e : stepIn (W m) n ≡ stepDone (bs m) (hs m) n (taken (W m) n)) where
+    abbrev q : Process
+    q = taken (W m) n
+
+    abbrev stepped : Stepped
+    stepped = rowOf (bs m) (hs m) n q .stepped
+
+    pub its-turn : Turn hs bs (sinceAt s es n m) m n q (rowOf (bs m) (hs m) n q .sound) (rowOf (bs m) (hs m) n q .stepped) (rowOf (bs m) (hs m) n q .block)
+    its-turn = turn (good .now) q y
+
+    pub state-is : W (suc m) ≡ putBack (W m) (rowOf (bs m) (hs m) n q .block) n (stepped .process)
+    state-is = state-next s es m (step n) z ∙ ap (λ (o : Out). putBack (W m) (o .block) n (o .stepped .process)) e
+
+    pub block-is : bs (suc m) ≡ rowOf (bs m) (hs m) n q .block
+    block-is = ap (λ (x : State). x .block) state-is
+
+    pub header-is : hs (suc m) ≡ its-turn .h′
+    header-is = ap headerOf block-is ∙ its-turn .fit′ .header
+
+    pub its-shift : Shift hs bs m n (hs (suc m)) (bs (suc m))
+    its-shift = shift-to header-is block-is (turn-shift its-turn)
+
+    steps : Good s es (suc m)
+    steps = record {
+      now = now-next (good .now) its-shift;
+      rows = rows-next n (rowOf (bs m) (hs m) n q .block) (stepped .process) state-is u (its-shift .processes-same);
+      each = λ p v. one p v (ℕ-discrete p n);
+    }
+      where
+        since-same : (p : ℕ) → sinceAt s es p (suc m) ≡ sinceAt s es p m
+        since-same p = since-stays s es m p (step n) z refl
+
+        own : Busy hs bs (sinceAt s es n m) (suc m) n (stepped .process) ⊎ (stepped .process ≡ idle) → Doing s es (suc m) n
+        own (inl x) =
+            works (subst (λ (a : Process). Busy hs bs (sinceAt s es n (suc m)) (suc m) n a)
+            (sym (taken-own n (rowOf (bs m) (hs m) n q .block) (stepped .process) state-is u))
+            (subst (λ (a : ℕ). Busy hs bs a (suc m) n (stepped .process)) (sym (since-same n)) x))
+        own (inr x) =
+            idles (ap (λ (a : Process). a .operation) (taken-own n (rowOf (bs m) (hs m) n q .block) (stepped .process) state-is u ∙ x))
+
+        one : (p : ℕ) → In (hs (suc m) .processes) p → Dec (p ≡ n) → Doing s es (suc m) p
+        one p v (yes d) =
+            subst (λ (a : ℕ). Doing s es (suc m) a) (sym d)
+            (own (busy-own (good .now) its-shift q stepped (y .since) u (follows-to header-is block-is (its-turn .follows))))
+        one p v (no d) =
+            doing-next its-shift p d (taken-other n (rowOf (bs m) (hs m) n q .block) (stepped .process) state-is u p (v .low) d) (since-same p)
+            (good .each p (place-back (good .now) its-shift v))
+
+  -- a start that is accepted
+  module _ (n operation key : ℕ) (u : In (hs m .processes) n) (z : eventAt es m ≡ start n operation key) (low : 1 ≤ operation) (high : operation ≤ 3) (fin : key < 4294967295)
+      (e : startIn (W m) n operation key ≡ started Accepted (startedAs operation key)) where
+    pub begun : W (suc m) ≡ putBack (W m) (bs m) n (startedAs operation key)
+    begun = state-next s es m (start n operation key) z ∙ ap (λ (o : Started). putBack (W m) (bs m) n (o .process)) e
+
+    pub same-shift : Shift hs bs m n (hs (suc m)) (bs (suc m))
+    same-shift =
+        shift-to {hs = hs} {bs = bs} {j = m} {h′ = hs m} {b′ = bs m} (ap (λ (x : State). headerOf (x .block)) begun) (ap (λ (x : State). x .block) begun) (shift-self n (good .now))
+
+    begins : Good s es (suc m)
+    unfolding pick both
+    begins = record {
+      now = next;
+      rows = rows-next n (bs m) (startedAs operation key) begun u (same-shift .processes-same);
+      each = λ p v. one p v (ℕ-discrete p n);
+    }
+      where
+        next : Now hs bs (suc m)
+        next = now-next (good .now) same-shift
+
+        started-now : starts (W m) (start n operation key) n ≡ true
+        started-now =
+            ap (λ (t : Bool). both t (isAccepted (startIn (W m) n operation key .answer))) (eq-eqb n n refl) ∙ ap (λ (o : Started). both true (isAccepted (o .answer))) e ∙ is
+          where
+            is : both true true ≡ true
+            is = both-is refl refl
+
+        since-now : sinceAt s es n (suc m) ≡ suc m
+        since-now = since-next s es m n (start n operation key) true z started-now
+
+        own : Busy hs bs (suc m) (suc m) n (startedAs operation key)
+        own = record {
+          since = omega arith;
+          place = subst (λ (x : ℕ). In x n) (sym (same-shift .processes-same)) u;
+          held = held-root next;
+          counters = counters-root low high fin (k-low next);
+          knows = descends-root next (suc m) (mindOf (hs (suc m)) (bs (suc m)) n (startedAs operation key)) (omega arith) refl refl;
+        }
+
+        one : (p : ℕ) → In (hs (suc m) .processes) p → Dec (p ≡ n) → Doing s es (suc m) p
+        one p v (yes d) =
+            subst (λ (a : ℕ). Doing s es (suc m) a) (sym d)
+            (works (subst (λ (a : Process). Busy hs bs (sinceAt s es n (suc m)) (suc m) n a) (sym (taken-own n (bs m) (startedAs operation key) begun u))
+            (subst (λ (a : ℕ). Busy hs bs a (suc m) n (startedAs operation key)) (sym since-now) own)))
+        one p v (no d) =
+            doing-next same-shift p d (taken-other n (bs m) (startedAs operation key) begun u p (v .low) d)
+            (since-stays s es m p (start n operation key) z (ap (λ (t : Bool). both t (isAccepted (startIn (W m) n operation key .answer))) (ne-eqb n p (λ x. d (sym x))) ∙ no-both (isAccepted (startIn (W m) n operation key .answer))))
+            (good .each p (place-back (good .now) same-shift v))
+          where
+            no-both : (t : Bool) → both false t ≡ false
+            no-both t = refl
+
+  -- the record put back as it was
+  pub same-state : (n : ℕ) → putBack (W m) (bs m) n (taken (W m) n) ≡ W m
+  same-state n = ap (λ (x : List Process). record { block = bs m; row = x }) (set-getD (W m .row) (n - 1) idle)
+
+  go-on : (e : Event) → eventAt es m ≡ e → Proper e → Good s es (suc m)
+  go-on (step n) z x = go (calls.step-goes (W m) (good .now .fit) (good .rows) n)
+    where
+      refused : (r : ℕ) → stepIn (W m) n ≡ stepRefused (bs m) (taken (W m) n) r → Good s es (suc m)
+      refused r e =
+          still (state-next s es m (step n) z ∙ ap (λ (o : Out). putBack (W m) (o .block) n (o .stepped .process)) e ∙ same-state n) (λ p. since-stays s es m p (step n) z refl)
+
+      busy : In (hs m .processes) n → taken (W m) n .operation ≢ 0 → Doing s es m n → Busy hs bs (sinceAt s es n m) m n (taken (W m) n)
+      busy u d (idles e) = absurd (d e)
+      busy u d (works y) = y
+
+      go : calls.Step (W m) (good .now .fit) (good .rows) n → Good s es (suc m)
+      go (calls.unknown d e) = refused 4 e
+      go (calls.rests u d e) = refused 8 e
+      go (calls.works u d f) = let y = busy u d (good .each n u) in steps n u z y (f (step-sound (good .now) (taken (W m) n) y))
+  go-on (start n operation key) z x = go (calls.start-goes (W m) (good .now .fit) (good .rows) n operation key)
+    where
+      go : calls.Start (W m) (good .now .fit) (good .rows) n operation key → Good s es (suc m)
+      go (calls.refused r d f e) =
+          still (state-next s es m (start n operation key) z ∙ ap (λ (o : Started). putBack (W m) (bs m) n (o .process)) e ∙ same-state n)
+          (λ p. since-stays s es m p (start n operation key) z (ap (λ (o : Started). both (eqb n p) (isAccepted (o .answer))) e ∙ both-false (eqb n p)))
+      go (calls.accepted u a c d f e) = begins n operation key u z a c (omega arith) e
+
+  pub good-next : Proper (eventAt es m) → Good s es (suc m)
+  good-next x = go-on (eventAt es m) refl x
+
+-- whose child swap the step from moment m is, in the words of the events
+pub data Kind (s : State) (es : List Event) (m : ℕ) (c : Step (headerAt s es m .k) (tables (headerAt s es) (blockAt s es) m) (tables (headerAt s es) (blockAt s es) (suc m))) : Type 0 where
+  no-swap : step-swaps (headerAt s es m .k) c ≡ 0 → ((r : ℕ) → ¬ ChildSwap s es m r) → Kind s es m c
+  swap-of : (r : ℕ) → 1 ≤ r → ChildSwap s es m r → step-swaps (headerAt s es m .k) c ≡ r → Kind s es m c
+
+-- an event as a step of the history
+pub record Move (s : State) (es : List Event) (m : ℕ) : Type 0 where
+  pub k-same : headerAt s es (suc m) .k ≡ headerAt s es m .k
+  pub processes-same : headerAt s es (suc m) .processes ≡ headerAt s es m .processes
+  pub step : Step (headerAt s es m .k) (tables (headerAt s es) (blockAt s es) m) (tables (headerAt s es) (blockAt s es) (suc m))
+  pub kind : Kind s es m step
+
+step-one : (n p : ℕ) → step n ≡ step p → n ≡ p
+step-one n p e = cc
+
+start-step : (n operation key p : ℕ) → start n operation key ≡ step p → ⊥
+start-step n operation key p e = let z : _≡_ {A = ℕ} 0 1 = cc in omega arith
+
+module _ {s : State} {es : List Event} {m : ℕ} (good : Good s es m) where
+  abbrev hs₁ : ℕ → Header
+  hs₁ = headerAt s es
+
+  abbrev bs₁ : ℕ → List ℕ
+  bs₁ = blockAt s es
+
+  abbrev W₁ : ℕ → State
+  W₁ = stateAt s es
+
+  -- nothing is written
+  rested : bs₁ (suc m) ≡ bs₁ m → ((r : ℕ) → ¬ ChildSwap s es m r) → Move s es m
+  rested e f = put (subst (λ (c : List ℕ). (x : Step (hs₁ m .k) (tables hs₁ bs₁ m) (tablesOf (headerOf c) c)) × (step-swaps (hs₁ m .k) x ≡ 0)) (sym e) (same-self (good .now), none))
+    where
+      none : step-swaps (hs₁ m .k) (same-self (good .now)) ≡ 0
+      none = same-none (good .now)
+
+      put : (x : Step (hs₁ m .k) (tables hs₁ bs₁ m) (tables hs₁ bs₁ (suc m))) × (step-swaps (hs₁ m .k) x ≡ 0) → Move s es m
+      put x = record {
+        k-same = ap (λ (c : List ℕ). headerOf c .k) e;
+        processes-same = ap (λ (c : List ℕ). headerOf c .processes) e;
+        step = x .0;
+        kind = no-swap (x .1) f;
+      }
+
+  module _ (n : ℕ) (u : In (hs₁ m .processes) n) (d : taken (W₁ m) n .operation ≢ 0) (z : eventAt es m ≡ step n)
+      (y : Busy hs₁ bs₁ (sinceAt s es n m) m n (taken (W₁ m) n)) (e : stepIn (W₁ m) n ≡ stepDone (bs₁ m) (hs₁ m) n (taken (W₁ m) n)) where
+    abbrev q₁ : Process
+    q₁ = taken (W₁ m) n
+
+    both-parts : (c : Step (hs₁ m .k) (tables hs₁ bs₁ m) (tables hs₁ bs₁ (suc m))) × Swapper hs₁ bs₁ m q₁ (tables hs₁ bs₁ (suc m)) c
+    both-parts =
+        subst (λ (x : List ℕ). (c : Step (hs₁ m .k) (tables hs₁ bs₁ m) (tablesOf (hs₁ (suc m)) x)) × Swapper hs₁ bs₁ m q₁ (tablesOf (hs₁ (suc m)) x) c) (sym (block-is good n u z y e))
+        (subst (λ (g : Header). (c : Step (hs₁ m .k) (tables hs₁ bs₁ m) (tablesOf g (rowOf (bs₁ m) (hs₁ m) n q₁ .block)))
+        × Swapper hs₁ bs₁ m q₁ (tablesOf g (rowOf (bs₁ m) (hs₁ m) n q₁ .block)) c) (sym (header-is good n u z y e))
+        (its-turn good n u z y e .step, its-turn good n u z y e .swapper))
+
+    swaps-by : Swapping (bs₁ m) (hs₁ m) q₁ → ChildSwap s es m (q₁ .helped)
+    swaps-by w = record { process = n; event = z; exists = u; busy = d; helps = refl; swapping = w }
+
+    moved : Move s es m
+    moved = record {
+      k-same = its-shift good n u z y e .k-same;
+      processes-same = its-shift good n u z y e .processes-same;
+      step = both-parts .0;
+      kind = go (both-parts .1);
+    }
+      where
+        nobody-swaps : (q₁ .point ≡ 7 → childWord (bs₁ m) (hs₁ m) (helpedP (bs₁ m) (hs₁ m) q₁) (q₁ .index) ≢ helpedL (bs₁ m) (hs₁ m) q₁)
+            → (q₁ .point ≡ 13 → childWord (bs₁ m) (hs₁ m) (helpedThird (bs₁ m) (hs₁ m) q₁) (q₁ .index) ≢ helpedP (bs₁ m) (hs₁ m) q₁)
+            → (r : ℕ) → ¬ ChildSwap s es m r
+        nobody-swaps a c r w =
+            no (subst (λ (p : ℕ). Swapping (bs₁ m) (hs₁ m) (taken (W₁ m) p)) (sym (step-one n (w .process) (sym z ∙ w .event))) (w .swapping))
+          where
+            no : Swapping (bs₁ m) (hs₁ m) q₁ → ⊥
+            no (seven p x) = a p x
+            no (thirteen p x) = c p x
+
+        go : Swapper hs₁ bs₁ m q₁ (tables hs₁ bs₁ (suc m)) (both-parts .0) → Kind s es m (both-parts .0)
+        go (at-7 p x v) = swap-of (q₁ .helped) (known (good .now) q₁ y 7 p .used .low) (swaps-by (seven p x)) v
+        go (at-13 p x v) = swap-of (q₁ .helped) (known (good .now) q₁ y 13 p .used .low) (swaps-by (thirteen p x)) v
+        go (nobody a c v) = no-swap v (nobody-swaps a c)
+
+  move-by : (e : Event) → eventAt es m ≡ e → Move s es m
+  move-by (step n) z = go (calls.step-goes (W₁ m) (good .now .fit) (good .rows) n)
+    where
+      same : (r : ℕ) → stepIn (W₁ m) n ≡ stepRefused (bs₁ m) (taken (W₁ m) n) r → bs₁ (suc m) ≡ bs₁ m
+      same r e = ap (λ (x : State). x .block) (state-next s es m (step n) z) ∙ ap (λ (o : Out). o .block) e
+
+      here : (r : ℕ) (w : ChildSwap s es m r) → w .process ≡ n
+      here r w = step-one (w .process) n (sym (w .event) ∙ z)
+
+      busy : taken (W₁ m) n .operation ≢ 0 → Doing s es m n → Busy hs₁ bs₁ (sinceAt s es n m) m n (taken (W₁ m) n)
+      busy d (idles e) = absurd (d e)
+      busy d (works y) = y
+
+      go : calls.Step (W₁ m) (good .now .fit) (good .rows) n → Move s es m
+      go (calls.unknown d e) = rested (same 4 e) (λ r w. d (subst (λ (p : ℕ). In (hs₁ m .processes) p) (here r w) (w .exists)))
+      go (calls.rests u d e) = rested (same 8 e) (λ r w. subst (λ (p : ℕ). taken (W₁ m) p .operation ≢ 0) (here r w) (w .busy) d)
+      go (calls.works u d f) = let y = busy d (good .each n u) in moved n u d z y (f (step-sound (good .now) (taken (W₁ m) n) y))
+  move-by (start n operation key) z =
+      rested (ap (λ (x : State). x .block) (state-next s es m (start n operation key) z)) (λ r w. start-step n operation key (w .process) (sym z ∙ w .event))
+
+  pub move : Move s es m
+  move = move-by (eventAt es m) refl
+
+-- every moment
+pub good-always : {s : State} {es : List Event} → Good s es 0 → ((m : ℕ) → Proper (eventAt es m)) → (m : ℕ) → Good s es m
+good-always g p zero = g
+good-always g p (suc m) = good-next (good-always g p m) (p m)

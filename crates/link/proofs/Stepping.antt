@@ -1,0 +1,192 @@
+-- A step of a busy process, at whichever point: nothing that it reads or swaps is damaged, and its row gives its turn.
+use Prim.Native.Nat.{ℕ, zero, suc, _≤_, _<_}
+use mathlib.Core.Path.{_≡_, refl, sym, ap, _∙_, subst}
+use mathlib.Core.Logic.{_≢_, _⊎_, inl, inr}
+use mathlib.Core.Bool.{Bool, true, false}
+use mathlib.Core.List.{List}
+use native.Mathlib.Omega.{arith}
+use Rattle.tables.specs.Choice.{pick, both}
+use Rattle.tables.specs.Layout.{depthOf}
+use Rattle.tables.specs.declared.header.Header.{Header}
+use Rattle.process.specs.declared.Process.{Process}
+use Rattle.points.specs.Touch.{Row}
+use Rattle.points.specs.Rows.{row1, row2, row3, row4, row5, row6, row7, row8, row9, row10, row11, row12, row13, row14, rowOf}
+use Rattle.points.specs.Step.{soundStep}
+use Rattle.damage.specs.Helped.{kindAt}
+use Rattle.history.specs.Shared.{Shared}
+use Rattle.history.specs.View.{In}
+use Rattle.history.proofs.Invariant.{Sound}
+use Rattle.history.proofs.Knows.{Mind, KnowsAt, Serves}
+use Rattle.link.proofs.Checks.{both-is}
+use Rattle.link.proofs.Minds.{mindOf, Uses, process-good, serves-uses, helps-kind, helps-good}
+use Rattle.link.proofs.Moments.{tables, Now, Busy, Turn, k-low, now-sound}
+use Rattle.link.proofs.Searching.{turn-1, turn-2}
+use Rattle.link.proofs.Scanning.{turn-3}
+use Rattle.link.proofs.Flagging.{turn-4, turn-5}
+use Rattle.link.proofs.Hanging.{turn-6, turn-7, turn-12, turn-13}
+use Rattle.link.proofs.Ending.{turn-8, turn-10, turn-14}
+use Rattle.link.proofs.Marking.{turn-9, turn-11}
+
+module _ (b : List ℕ) (h : Header) (n : ℕ) (q : Process) where
+  pub row-at-1 : q .point ≡ 1 → rowOf b h n q ≡ row1 b h q
+  unfolding rowOf pick
+  row-at-1 e = rw e refl
+
+  pub row-at-2 : q .point ≡ 2 → rowOf b h n q ≡ row2 b h q
+  unfolding rowOf pick
+  row-at-2 e = rw e refl
+
+  pub row-at-3 : q .point ≡ 3 → rowOf b h n q ≡ row3 b h q
+  unfolding rowOf pick
+  row-at-3 e = rw e refl
+
+  pub row-at-4 : q .point ≡ 4 → rowOf b h n q ≡ row4 b h n q
+  unfolding rowOf pick
+  row-at-4 e = rw e refl
+
+  pub row-at-5 : q .point ≡ 5 → rowOf b h n q ≡ row5 b h n q
+  unfolding rowOf pick
+  row-at-5 e = rw e refl
+
+  pub row-at-6 : q .point ≡ 6 → rowOf b h n q ≡ row6 b h q
+  unfolding rowOf pick
+  row-at-6 e = rw e refl
+
+  pub row-at-7 : q .point ≡ 7 → rowOf b h n q ≡ row7 b h q
+  unfolding rowOf pick
+  row-at-7 e = rw e refl
+
+  pub row-at-8 : q .point ≡ 8 → rowOf b h n q ≡ row8 b h n q
+  unfolding rowOf pick
+  row-at-8 e = rw e refl
+
+  pub row-at-9 : q .point ≡ 9 → rowOf b h n q ≡ row9 b h n q
+  unfolding rowOf pick
+  row-at-9 e = rw e refl
+
+  pub row-at-10 : q .point ≡ 10 → rowOf b h n q ≡ row10 b h n q
+  unfolding rowOf pick
+  row-at-10 e = rw e refl
+
+  pub row-at-11 : q .point ≡ 11 → rowOf b h n q ≡ row11 b h q
+  unfolding rowOf pick
+  row-at-11 e = rw e refl
+
+  pub row-at-12 : q .point ≡ 12 → rowOf b h n q ≡ row12 b h q
+  unfolding rowOf pick
+  row-at-12 e = rw e refl
+
+  pub row-at-13 : q .point ≡ 13 → rowOf b h n q ≡ row13 b h q
+  unfolding rowOf pick
+  row-at-13 e = rw e refl
+
+  pub row-at-14 : q .point ≡ 14 → rowOf b h n q ≡ row14 b h n q
+  unfolding rowOf pick
+  row-at-14 e = rw e refl
+
+module _ {hs : ℕ → Header} {bs : ℕ → List ℕ} {i j n : ℕ} (now : Now hs bs j) (q : Process) (y : Busy hs bs i j n q) where
+  abbrev h : Header
+  h = hs j
+
+  abbrev b : List ℕ
+  b = bs j
+
+  abbrev k : ℕ
+  k = hs j .k
+
+  abbrev S : ℕ → Shared
+  S = tables hs bs
+
+  abbrev mind : Mind
+  mind = mindOf (hs j) (bs j) n q
+
+  I : Sound k (S j)
+  I = now-sound now
+
+  as-row : {r : Row} → rowOf b h n q ≡ r → Turn hs bs i j n q (r .sound) (r .stepped) (r .block)
+      → Turn hs bs i j n q (rowOf b h n q .sound) (rowOf b h n q .stepped) (rowOf b h n q .block)
+  as-row e t = subst (λ (w : Row). Turn hs bs i j n q (w .sound) (w .stepped) (w .block)) (sym e) t
+
+  turn-at : (m : ℕ) → q .point ≡ m → Turn hs bs i j n q (rowOf b h n q .sound) (rowOf b h n q .stepped) (rowOf b h n q .block)
+  turn-at zero e = absurd (omega (arith, y .counters .point-low))
+  turn-at (suc zero) e = as-row (row-at-1 b h n q e) (turn-1 now q y e)
+  turn-at (suc (suc zero)) e = as-row (row-at-2 b h n q e) (turn-2 now q y e)
+  turn-at (suc (suc (suc zero))) e = as-row (row-at-3 b h n q e) (turn-3 now q y e)
+  turn-at (suc (suc (suc (suc zero)))) e = as-row (row-at-4 b h n q e) (turn-4 now q y e)
+  turn-at (suc (suc (suc (suc (suc zero))))) e = as-row (row-at-5 b h n q e) (turn-5 now q y e)
+  turn-at (suc (suc (suc (suc (suc (suc zero)))))) e = as-row (row-at-6 b h n q e) (turn-6 now q y e)
+  turn-at (suc (suc (suc (suc (suc (suc (suc zero))))))) e = as-row (row-at-7 b h n q e) (turn-7 now q y e)
+  turn-at (suc (suc (suc (suc (suc (suc (suc (suc zero)))))))) e = as-row (row-at-8 b h n q e) (turn-8 now q y e)
+  turn-at (suc (suc (suc (suc (suc (suc (suc (suc (suc zero))))))))) e = as-row (row-at-9 b h n q e) (turn-9 now q y e)
+  turn-at (suc (suc (suc (suc (suc (suc (suc (suc (suc (suc zero)))))))))) e = as-row (row-at-10 b h n q e) (turn-10 now q y e)
+  turn-at (suc (suc (suc (suc (suc (suc (suc (suc (suc (suc (suc zero))))))))))) e = as-row (row-at-11 b h n q e) (turn-11 now q y e)
+  turn-at (suc (suc (suc (suc (suc (suc (suc (suc (suc (suc (suc (suc zero)))))))))))) e = as-row (row-at-12 b h n q e) (turn-12 now q y e)
+  turn-at (suc (suc (suc (suc (suc (suc (suc (suc (suc (suc (suc (suc (suc zero))))))))))))) e = as-row (row-at-13 b h n q e) (turn-13 now q y e)
+  turn-at (suc (suc (suc (suc (suc (suc (suc (suc (suc (suc (suc (suc (suc (suc zero)))))))))))))) e = as-row (row-at-14 b h n q e) (turn-14 now q y e)
+  turn-at (suc (suc (suc (suc (suc (suc (suc (suc (suc (suc (suc (suc (suc (suc (suc x))))))))))))))) e = absurd (omega (arith, y .counters .point-high))
+
+  pub turn : Turn hs bs i j n q (rowOf b h n q .sound) (rowOf b h n q .stepped) (rowOf b h n q .block)
+  turn = turn-at (q .point) refl
+
+  uses-at : (m : ℕ) → q .point ≡ m → KnowsAt k S i j mind m → Uses (depthOf h) (q .point) (q .gp) (q .l) (q .index) (q .helped) (q .other) (q .depth)
+  uses-at zero e w = absurd w
+  uses-at (suc zero) e w = record {
+    room = omega (arith, y .counters .early-depth (omega arith));
+    l-there = λ a d. absurd (omega arith);
+    gp-there = λ a. absurd (omega arith);
+    helped-there = λ a. absurd (omega arith);
+    index-there = λ a. absurd (omega arith);
+    other-there = λ a. absurd (omega arith);
+  }
+  uses-at (suc (suc zero)) e w = record {
+    room = omega (arith, y .counters .early-depth (omega arith));
+    l-there = λ a d. absurd (omega arith);
+    gp-there = λ a. absurd (omega arith);
+    helped-there = λ a. absurd (omega arith);
+    index-there = λ a. absurd (omega arith);
+    other-there = λ a. absurd (omega arith);
+  }
+  uses-at (suc (suc (suc zero))) e w = record {
+    room = omega (arith, y .counters .early-depth (omega arith));
+    l-there = λ a d z. omega (arith, w .delete .leaf .used .low);
+    gp-there = λ a. absurd (omega arith);
+    helped-there = λ a. absurd (omega arith);
+    index-there = λ a z. omega (arith, w .index-in .low);
+    other-there = λ a. absurd (omega arith);
+  }
+  uses-at (suc (suc (suc (suc zero)))) e w = record {
+    room = omega (arith, y .counters .early-depth (omega arith));
+    l-there = λ a d z. omega (arith, w .leaf .used .low);
+    gp-there = λ a. absurd (omega arith);
+    helped-there = λ a. absurd (omega arith);
+    index-there = λ a. absurd (omega arith);
+    other-there = λ a. absurd (omega arith);
+  }
+  uses-at (suc (suc (suc (suc (suc zero))))) e w = record {
+    room = omega (arith, y .counters .early-depth (omega arith));
+    l-there = λ a d z. omega (arith, w .delete .leaf .used .low);
+    gp-there = λ a z. omega (arith, w .delete .up .way .used .low);
+    helped-there = λ a. absurd (omega arith);
+    index-there = λ a. absurd (omega arith);
+    other-there = λ a. absurd (omega arith);
+  }
+  uses-at (suc (suc (suc (suc (suc (suc x)))))) e w =
+      serves-uses q (now .fit) I (y .counters) n (suc (suc (suc (suc (suc (suc x)))))) e (omega arith) w
+
+  serves : 6 ≤ q .point → (m : ℕ) → q .point ≡ m → KnowsAt k S i j mind m → Serves k (S j) mind (q .point)
+  serves l zero e w = absurd w
+  serves l (suc zero) e w = absurd (omega arith)
+  serves l (suc (suc zero)) e w = absurd (omega arith)
+  serves l (suc (suc (suc zero))) e w = absurd (omega arith)
+  serves l (suc (suc (suc (suc zero)))) e w = absurd (omega arith)
+  serves l (suc (suc (suc (suc (suc zero))))) e w = absurd (omega arith)
+  serves l (suc (suc (suc (suc (suc (suc x)))))) e w = subst (λ (m : ℕ). Serves k (S j) mind m) (sym e) w
+
+  -- never damaged
+  pub step-sound : soundStep b h n q ≡ true
+  step-sound =
+      both-is (process-good q (now .fit) I (y .held) (y .counters) (uses-at (q .point) refl (y .knows)))
+      (both-is
+      (helps-good q (now .fit) I (now .owners)
+      (λ l. let w = serves l (q .point) refl (y .knows) in (w .used, helps-kind k (S j) (q .helped) (q .index) (q .other) (q .point) (w .helps))))
+      (turn .is-sound))

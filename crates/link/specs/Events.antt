@@ -1,0 +1,109 @@
+-- Events: starts and steps of the processes of a row over one block, and the state at each moment of a list of them.
+use Prim.Native.Nat.{ℕ, zero, suc, _+_, _-_, _≤_}
+use mathlib.Core.Bool.{Bool, true, false}
+use mathlib.Core.List.{List}
+use lib.Dec.{ltb, eqb}
+use lib.ListN.{length, getD, set}
+use Rattle.tables.specs.Choice.{pick, both}
+use Rattle.tables.specs.Numbers.{infinity}
+use Rattle.tables.specs.Header.{headerOf}
+use Rattle.tables.specs.Fresh.{freshHeader, freshBlock, freshRow, overFront}
+use Rattle.tables.specs.declared.header.Header.{Header}
+use Rattle.process.specs.declared.Process.{Process}
+use Rattle.process.specs.declared.StepAnswer.{StepAnswer}
+use Rattle.process.specs.declared.StepAnswer.the-variants.{GoesOn, Ended, Refused as StepRefused}
+use Rattle.process.specs.Process.{idle}
+use Rattle.points.specs.Touch.{Out}
+use Rattle.points.specs.Step.{startOf, stepOf}
+use Rattle.points.specs.declared.start.StartAnswer.{StartAnswer}
+use Rattle.points.specs.declared.start.StartAnswer.the-variants.{Accepted, Refused}
+use Rattle.points.specs.declared.start.Started.{Started}
+
+-- start (process, operation, key); step (process)
+pub data Event : Type 0 where
+  start : ℕ → ℕ → ℕ → Event
+  step : ℕ → Event
+
+-- the block, and the row of process records
+pub record State : Type 0 where
+  pub block : List ℕ
+  pub row : List Process
+
+-- a call takes the record of its process out of the row, and puts it back
+abbrev pub taken : State → ℕ → Process
+taken s n = getD (s .row) (n - 1) idle
+
+abbrev pub startIn : State → ℕ → ℕ → ℕ → Started
+startIn s n operation key = startOf (s .block) (length (s .row)) n (taken s n) operation key
+
+abbrev pub stepIn : State → ℕ → Out
+stepIn s n = stepOf (s .block) (length (s .row)) n (taken s n)
+
+abbrev pub putBack : State → List ℕ → ℕ → Process → State
+putBack s b n q = record { block = b; row = set (s .row) (n - 1) q }
+
+abbrev pub after : State → Event → State
+after s (start n operation key) = putBack s (s .block) n (startIn s n operation key .process)
+after s (step n) = putBack s (stepIn s n .block) n (stepIn s n .stepped .process)
+
+-- event m of a list, from 0. (No process has the number 0: a step of it is refused.)
+abbrev pub eventAt : List Event → ℕ → Event
+eventAt es m = getD es m (step 0)
+
+-- the state after the first m events of a list
+unfoldable pub stateAt : State → List Event → ℕ → State
+stateAt s es zero = s
+stateAt s es (suc m) = after (stateAt s es m) (eventAt es m)
+
+abbrev pub blockAt : State → List Event → ℕ → List ℕ
+blockAt s es m = stateAt s es m .block
+
+abbrev pub headerAt : State → List Event → ℕ → Header
+headerAt s es m = headerOf (blockAt s es m)
+
+-- a key given is a word of 32 bits
+abbrev pub Proper : Event → Type 0
+Proper (start n operation key) = key ≤ infinity
+Proper (step n) = 0 ≤ n
+
+-- the event is an accepted start of process n
+abbrev pub isAccepted : StartAnswer → Bool
+isAccepted Accepted = true
+isAccepted (Refused e) = false
+
+abbrev pub starts : State → Event → ℕ → Bool
+starts s (start m operation key) n = both (eqb m n) (isAccepted (startIn s m operation key .answer))
+starts s (step m) n = false
+
+-- the moment after the last accepted start of process n
+unfoldable pub sinceAt : State → List Event → ℕ → ℕ → ℕ
+sinceAt s es n zero = 0
+sinceAt s es n (suc m) = pick (starts (stateAt s es m) (eventAt es m) n) (suc m) (sinceAt s es n m)
+
+-- the event is an accepted step of process n: it goes on, or gives an answer
+abbrev pub isAnswered : StepAnswer → Bool
+isAnswered GoesOn = true
+isAnswered (Ended a steps) = true
+isAnswered (StepRefused e) = false
+
+abbrev pub steppedBy : State → Event → ℕ → Bool
+steppedBy s (start m operation key) n = false
+steppedBy s (step m) n = both (eqb m n) (isAnswered (stepIn s m .stepped .answer))
+
+-- the accepted steps of process n since its last accepted start
+unfoldable pub stepsAt : State → List Event → ℕ → ℕ → ℕ
+stepsAt s es n zero = 0
+stepsAt s es n (suc m) =
+    pick (starts (stateAt s es m) (eventAt es m) n) 0
+    (pick (steppedBy (stateAt s es m) (eventAt es m) n) (stepsAt s es n m + 1) (stepsAt s es n m))
+
+-- "which stays at 4,294,967,295 once there"
+abbrev pub capped : ℕ → ℕ
+capped x = pick (ltb x 4294967295) x 4294967295
+
+-- what making leaves: the fresh tree over the front of the block, all process records idle over the front of the row
+abbrev pub freshState : ℕ → ℕ → ℕ → ℕ → List ℕ → List Process → State
+freshState k processes nodes records b row = record {
+  block = overFront (freshBlock (freshHeader k processes nodes records)) b;
+  row = overFront (freshRow idle (freshHeader k processes nodes records)) row;
+}
