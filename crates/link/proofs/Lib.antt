@@ -27,3 +27,4 @@ pub mod Story
 pub mod Answers
 pub mod Origins
 pub mod Owners
+pub mod Examples

@@ -20,12 +20,12 @@ use Rattle.history.specs.Effects.{SetMoves}
 use Rattle.history.proofs.Swapping.{DrawnAt, drawn-between}
 use Rattle.history.proofs.Lasting.{Grown}
 use Rattle.link.specs.Tables.{descOf}
-use Rattle.link.specs.Events.{Event, step, State, taken, stepIn, eventAt, stateAt, blockAt, headerAt, sinceAt, Proper, freshState}
+use Rattle.link.specs.Events.{Event, step, State, taken, stepIn, eventAt, stateAt, blockAt, headerAt, sinceAt, Proper, AllProper, empty, also, freshState}
 use Rattle.link.specs.Swaps.{ChildSwap}
 use Rattle.link.proofs.Moments.{tables, Busy}
 use Rattle.link.proofs.Reached.{its-turn, taken-own, state-is, block-is, header-is}
 use Rattle.link.proofs.Outcomes.{Outcome, nothing, begun, moved, outcome}
-use Rattle.link.proofs.Beginning.{fresh-rested}
+use Rattle.link.proofs.Beginning.{Rested, fresh-rested}
 use Rattle.link.proofs.Clauses.{Reached, good, hk, run, sound₀, grows, set-changes, swap-at}
 use Rattle.link.proofs.Story.{Story, story}
 
@@ -102,8 +102,15 @@ module _ {s : State} {es : List Event} (reached : Reached s es) where
   pub started-by : (m r : ℕ) (u : In (S m .records) r) → Story s es (comes m r u .when) (comes m r u .n)
   started-by m r u = story reached (comes m r u .when) (comes m r u .n) (comes m r u .place) (comes m r u .busy)
 
--- the fresh tree, then events
-pub reached-fresh : (k processes nodes records : ℕ) (b : List ℕ) (row : List Process) (es : List Event) → numbersGood (kStored k) processes nodes records ≡ true
-    → blockWords (freshHeader k processes nodes records) ≤ length b → processes ≤ length row → ((m : ℕ) → Proper (eventAt es m))
-    → Reached (freshState k processes nodes records b row) es
-reached-fresh k processes nodes records b row es good long rows proper = record { rest = fresh-rested k processes nodes records good b long row rows; proper = proper }
+proper-at : {es : List Event} → AllProper es → (m : ℕ) → Proper (eventAt es m)
+proper-at empty m = omega arith
+proper-at (also x p) zero = x
+proper-at (also x p) (suc m) = proper-at p m
+
+-- a state at rest, then a list of events; the fresh tree is one
+pub reached-rest : {s : State} {es : List Event} → Rested s → AllProper es → Reached s es
+reached-rest r p = record { rest = r; proper = proper-at p }
+
+pub reached-fresh : (k processes nodes records : ℕ) (b : List ℕ) (row : List Process) {es : List Event} → numbersGood (kStored k) processes nodes records ≡ true
+    → blockWords (freshHeader k processes nodes records) ≤ length b → processes ≤ length row → AllProper es → Reached (freshState k processes nodes records b row) es
+reached-fresh k processes nodes records b row good long rows proper = reached-rest (fresh-rested k processes nodes records good b long row rows) proper

@@ -1,7 +1,7 @@
 -- Events: starts and steps of the processes of a row over one block, and the state at each moment of a list of them.
 use Prim.Native.Nat.{ℕ, zero, suc, _+_, _-_, _≤_}
 use mathlib.Core.Bool.{Bool, true, false}
-use mathlib.Core.List.{List}
+use mathlib.Core.List.{List, [], _∷_}
 use lib.Dec.{ltb, eqb}
 use lib.ListN.{length, getD, set}
 use Rattle.tables.specs.Choice.{pick, both}
@@ -65,6 +65,11 @@ headerAt s es m = headerOf (blockAt s es m)
 abbrev pub Proper : Event → Type 0
 Proper (start n operation key) = key ≤ infinity
 Proper (step n) = 0 ≤ n
+
+-- all of a list are so
+pub data AllProper : List Event → Type 0 where
+  empty : AllProper []
+  also : {e : Event} {es : List Event} → Proper e → AllProper es → AllProper (e ∷ es)
 
 -- the event is an accepted start of process n
 abbrev pub isAccepted : StartAnswer → Bool
