@@ -2,3 +2,5 @@
 pub mod Lines
 pub mod Texts
 pub mod Cuts
+pub mod Written
+pub mod Room

@@ -5,7 +5,7 @@ use mathlib.Core.List.{List, [], _∷_, _++_}
 use native.Mathlib.Omega.{arith}
 use native.Mathlib.Numerals.{add-one}
 use lib.ListN.{length, getD, take, drop, drop-of-length-le}
-use lib.Seq.{drop-cons, take-all, length-take-le}
+use lib.Seq.{drop-cons, take-all}
 use Rattle.tables.specs.Refusal.{numberOf}
 use Rattle.tables.specs.declared.numbers.Refusal.{Refusal}
 use Rattle.script.specs.Writing.{Out, out, written, keyLine, answerLine, refusedLine, countLine}
@@ -30,12 +30,9 @@ module _ (w : Out) (b keys : List ℕ) (at i : ℕ) (inv : w ≡ written b at (k
 
 pub ruleset key-turns = (keys-again, keys-done)
 
-pub front-count : (list : List ℕ) (n : ℕ) → n < length list → n ≡ length (take n list)
-front-count list n p = sym (length-take-le n list (omega arith))
-
 module _ (b b′ list : List ℕ) (at count r : ℕ) where
-  pub front-all : length list ≤ count → out r b′ ≡ written b at (keyLines list) → out r b′ ≡ written b at (keyLines (take count list))
-  front-all p e = rw (take-all count list p) e
+  pub front-all : length list < count → out r b′ ≡ written b at (keyLines list) → out r b′ ≡ written b at (keyLines (take count list))
+  front-all p e = rw (take-all count list (omega arith)) e
 
 module _ (b b′ list : List ℕ) (s : Said) (r : ℕ) where
   pub said-nothing : s ≡ said.Nothing → out 0 b ≡ written b 0 (saidText s list)

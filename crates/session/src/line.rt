@@ -230,8 +230,8 @@ fn list_all(block: &[u32], list: &mut [u32]) -> Said
     }
 }
 
-// A making line after the first is not in its form.
-fn later(block: &mut [u32], list: &mut [u32], row: [Process; 32], line: Line) -> Turn
+// A line once the tables are made. A making line is then not in its form.
+pub fn later(block: &mut [u32], list: &mut [u32], row: [Process; 32], line: Line) -> Turn
     ensures { λ r. ⌜ done r (now (block .exit)) (now (list .exit)) ≡ laterDone (now (block .entry)) (now (list .entry)) row line ⌝ }
 {
     match line {

@@ -25,7 +25,7 @@ fn put_front(buffer: &mut [u8], at: usize, list: &[u32], count: u32) -> usize
     ensures { λ r. ⌜ out r (now (buffer .exit)) ≡ written (now (buffer .entry)) at (keyLines (take count (now (list .entry)))) ⌝ }
 {
     let n = count as usize;
-    if n < list.len() {
+    if n <= list.len() {
         put_keys(buffer, at, &list[..n])
     } else {
         put_keys(buffer, at, list)

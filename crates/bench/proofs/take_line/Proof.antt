@@ -1,6 +1,6 @@
 -- The proof that `take_line` keeps its contract.
 use borrow.Author.Needs.{needs}
-use Rattle.bench.proofs.Within.{written-within, part-count}
+use Rattle.session.proofs.Written.{written-within, part-count}
 use Rattle.bench.proofs.take_line.Statement.{statement}
 use Rattle.bench.proofs.take_line.Tie as tie
 

@@ -1,6 +1,6 @@
 -- The proof that `take_rest` keeps its contract.
 use borrow.Author.Needs.{needs}
-use Rattle.bench.proofs.Within.{part-count}
+use Rattle.session.proofs.Written.{part-count}
 use Rattle.bench.proofs.take_rest.Statement.{statement}
 use Rattle.bench.proofs.take_rest.Tie as tie
 
