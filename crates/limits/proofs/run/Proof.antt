@@ -17,18 +17,18 @@ run-spec =
     (tie.spec
     Inv-loop
     μ-loop
-    (λ c κs. search needs) -- idle-record-requires
-    (λ c κs. search needs) -- make-requires
-    (λ c κs. search needs) -- make-requires-2
-    (λ c. search needs) -- loop-holds
-    (λ c κs. search needs) -- makings-requires
-    (λ c κs. search needs) -- nobodies-requires
-    (λ c κs. search needs) -- keys-requires
-    (λ c. search needs) -- add-k
-    (λ c. search needs) -- loop-less
-    (λ c. search needs) -- loop-again
-    (λ c. search needs) -- same-length
-    (λ c. search needs) -- same-length-2
-    (λ c. search needs) -- same-length-3
-    (λ c. search needs) -- returns
+    (λ c κs. search needs)  -- idle-record-requires
+    (λ c κs. search needs)  -- make-requires
+    (λ c κs. search needs)  -- make-requires-2
+    (λ c. search needs)  -- loop-holds
+    (λ c κs. search needs)  -- makings-requires
+    (λ c κs. search needs)  -- nobodies-requires
+    (λ c κs. search needs)  -- keys-requires
+    (λ c. search needs)  -- add-k
+    (λ c. search needs)  -- loop-less
+    (λ c. search needs)  -- loop-again
+    (λ c. search needs)  -- same-length
+    (λ c. search needs)  -- same-length-2
+    (λ c. search needs)  -- same-length-3
+    (λ c. search needs)  -- returns
     )
