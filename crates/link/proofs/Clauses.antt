@@ -16,11 +16,9 @@ use Rattle.process.specs.declared.StepAnswer.{StepAnswer}
 use Rattle.process.specs.declared.StepAnswer.the-variants.{GoesOn, Ended, Refused}
 use Rattle.process.specs.declared.Stepped.{Stepped}
 use Rattle.process.specs.Answer.{stepsUp, goingOn, endingOf}
-use Rattle.points.specs.Touch.{Out}
 use Rattle.points.specs.Rows.{rowOf}
-use Rattle.points.specs.Step.{stepDone, stepRefused}
 use Rattle.points.specs.declared.start.StartAnswer.the-variants as start-answers
-use Rattle.points.specs.declared.start.Started.{Started}
+use Rattle.index.specs.Calls.{StartOut, StepOut}
 use Rattle.history.specs.View.{In, route, keys, Reach, Below, Holds}
 use Rattle.history.specs.Shared.{Shared}
 use Rattle.history.specs.Effects.{SameSet, SetMoves}
@@ -113,7 +111,7 @@ module _ {s : State} {es : List Event} (reached : Reached s es) where
   sound m = sound-at hk (run m) sound₀ m (omega arith)
 
   -- 1. No step is refused but for an unknown or an idle process; no start as damaged or too short.
-  pub step-refused : (m n : ℕ) (e : Refusal) → stepIn (W m) n .stepped .answer ≡ Refused e → (e ≡ NoSuchProcess) ⊎ (e ≡ Idle)
+  pub step-refused : (m n : ℕ) (e : Refusal) → stepIn (W m) n .answer ≡ Refused e → (e ≡ NoSuchProcess) ⊎ (e ≡ Idle)
   step-refused m n e z = go (calls.step-goes (W m) (good m .now .fit) (good m .rows) n)
     where
       same : (d f : Refusal) → Refused d ≡ Refused f → f ≡ d
@@ -123,18 +121,18 @@ module _ {s : State} {es : List Event} (reached : Reached s es) where
       busy d (idles x) = absurd (d x)
       busy d (works y) = y
 
-      says : (t : Stepped) → stepIn (W m) n .stepped ≡ t → (t .answer ≡ GoesOn) ⊎ ((a : Answer) × (t .answer ≡ Ended a (stepsUp (taken (W m) n .steps))) × Why (hs m .k) S (sinceAt s es n m) m n (taken (W m) n) a) → ⊥
-      says t x (inl g) = let v : GoesOn ≡ Refused e = sym g ∙ ap (λ (u : Stepped). u .answer) (sym x) ∙ z in let w : _≡_ {A = ℕ} 0 1 = cc in omega arith
+      says : (t : Stepped) → stepIn (W m) n .answer ≡ t .answer → (t .answer ≡ GoesOn) ⊎ ((a : Answer) × (t .answer ≡ Ended a (stepsUp (taken (W m) n .steps))) × Why (hs m .k) S (sinceAt s es n m) m n (taken (W m) n) a) → ⊥
+      says t x (inl g) = let v : GoesOn ≡ Refused e = sym g ∙ sym x ∙ z in let w : _≡_ {A = ℕ} 0 1 = cc in omega arith
       says t x (inr g) =
-          let v : Ended (g .0) (stepsUp (taken (W m) n .steps)) ≡ Refused e = sym (g .1) ∙ ap (λ (u : Stepped). u .answer) (sym x) ∙ z in
+          let v : Ended (g .0) (stepsUp (taken (W m) n .steps)) ≡ Refused e = sym (g .1) ∙ sym x ∙ z in
           let w : _≡_ {A = ℕ} 0 1 = cc in omega arith
 
       go : calls.Step (W m) (good m .now .fit) (good m .rows) n → (e ≡ NoSuchProcess) ⊎ (e ≡ Idle)
-      go (calls.unknown d x) = inl (same NoSuchProcess e (sym (ap (λ (o : Out). o .stepped .answer) x) ∙ z))
-      go (calls.rests u d x) = inr (same Idle e (sym (ap (λ (o : Out). o .stepped .answer) x) ∙ z))
+      go (calls.unknown d x) = inl (same NoSuchProcess e (sym (ap (λ (o : StepOut). o .answer) x) ∙ z))
+      go (calls.rests u d x) = inr (same Idle e (sym (ap (λ (o : StepOut). o .answer) x) ∙ z))
       go (calls.works u d f) =
           let y = busy d (good m .each n u) in
-          absurd (says (rowOf (bs m) (hs m) n (taken (W m) n) .stepped) (ap (λ (o : Out). o .stepped) (f (step-sound (good m .now) (taken (W m) n) y)))
+          absurd (says (rowOf (bs m) (hs m) n (taken (W m) n) .stepped) (ap (λ (o : StepOut). o .answer) (f (step-sound (good m .now) (taken (W m) n) y)))
           (stepped-says (turn (good m .now) (taken (W m) n) y .follows)))
 
   pub start-refused : (m n operation key : ℕ) (e : Refusal) → startIn (W m) n operation key .answer ≡ start-answers.Refused e → (e ≢ Damaged) × (e ≢ TooShort)
@@ -145,10 +143,10 @@ module _ {s : State} {es : List Event} (reached : Reached s es) where
 
       go : calls.Start (W m) (good m .now .fit) (good m .rows) n operation key → (e ≢ Damaged) × (e ≢ TooShort)
       go (calls.refused r d f x) =
-          let v : e ≡ refusal r = same (refusal r) e (sym (ap (λ (o : Started). o .answer) x) ∙ z) in
+          let v : e ≡ refusal r = same (refusal r) e (sym (ap (λ (o : StartOut). o .answer) x) ∙ z) in
           ((λ a. d (sym v ∙ a)), (λ a. f (sym v ∙ a)))
       go (calls.accepted u a c d f x) =
-          let v : start-answers.Accepted ≡ start-answers.Refused e = sym (ap (λ (o : Started). o .answer) x) ∙ z in
+          let v : start-answers.Accepted ≡ start-answers.Refused e = sym (ap (λ (o : StartOut). o .answer) x) ∙ z in
           let w : _≡_ {A = ℕ} 0 1 = cc in absurd (omega arith)
 
   -- 2. Figure 3: a key in a leaf below child i of an internal node of the tree goes by child i

@@ -17,6 +17,7 @@ use Rattle.damage.specs.Helped.{recordGood, helpedGood}
 use Rattle.draws.specs.Draw.{leavesFrom, committed, replaceDrawn}
 use Rattle.points.specs.Help.{helpEnded}
 use Rattle.points.specs.Rows.{lookRow, hangRow, unflagRow, row1, row2, row4, row6, row7, row8, rowOf}
+use Rattle.index.specs.Calls.{startCall, stepCall}
 use Rattle.link.specs.Events.{Event, start, step, State, taken, AllProper, empty, also, stepIn, stateAt, freshState}
 use Rattle.link.proofs.Clauses.{Reached}
 use Rattle.link.proofs.Answers.{Answered, Behind, yes-behind}
@@ -42,11 +43,11 @@ unfolding made numbersGood both pick
 reached = reached-fresh 2 1 16 8 (replicate 155 0) (idle ∷ []) refl (omega arith) (omega arith) proper
 
 pub answered : Answered made run-b 8 1 Yes 8
-unfolding made run-b stateAt pick both listed numbersGood headerGood rises holds firstAt fields.numbersGood fields.nodesGood fields.recordsGood fields.usesGood fields.processGood recordGood helpedGood leavesFrom committed replaceDrawn helpEnded lookRow hangRow unflagRow row1 row2 row4 row6 row7 row8 rowOf
+unfolding made run-b stateAt pick both listed numbersGood headerGood rises holds firstAt fields.numbersGood fields.nodesGood fields.recordsGood fields.usesGood fields.processGood recordGood helpedGood leavesFrom committed replaceDrawn helpEnded lookRow hangRow unflagRow row1 row2 row4 row6 row7 row8 rowOf startCall stepCall
 answered = record { event = refl; answer = refl }
 
 inserting : taken (stateAt made run-b 8) 1 .operation ≡ 2
-unfolding made run-b stateAt pick both listed numbersGood headerGood rises holds firstAt fields.numbersGood fields.nodesGood fields.recordsGood fields.usesGood fields.processGood recordGood helpedGood leavesFrom committed replaceDrawn helpEnded lookRow hangRow unflagRow row1 row2 row4 row6 row7 row8 rowOf
+unfolding made run-b stateAt pick both listed numbersGood headerGood rises holds firstAt fields.numbersGood fields.nodesGood fields.recordsGood fields.usesGood fields.processGood recordGood helpedGood leavesFrom committed replaceDrawn helpEnded lookRow hangRow unflagRow row1 row2 row4 row6 row7 row8 rowOf startCall stepCall
 inserting = refl
 
 pub behind : Behind made run-b 8 1

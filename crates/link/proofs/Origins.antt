@@ -13,7 +13,6 @@ use Rattle.tables.specs.Fresh.{freshHeader}
 use Rattle.tables.specs.declared.header.Header.{Header}
 use Rattle.process.specs.declared.Process.{Process}
 use Rattle.points.specs.Rows.{rowOf}
-use Rattle.points.specs.Step.{stepDone}
 use Rattle.history.specs.View.{In}
 use Rattle.history.specs.Shared.{Desc, Shared}
 use Rattle.history.specs.Effects.{SetMoves}

@@ -12,7 +12,7 @@ use Rattle.process.specs.declared.Process.{Process}
 use Rattle.process.specs.declared.Stepped.{Stepped}
 use Rattle.process.specs.Process.{startedAs}
 use Rattle.points.specs.Rows.{rowOf}
-use Rattle.points.specs.Step.{stepDone}
+use Rattle.link.proofs.Calls.{stepDoneIn}
 use Rattle.history.specs.View.{In, Reach}
 use Rattle.history.specs.Shared.{Desc, Shared, Stands}
 use Rattle.history.proofs.Lasting.{Grown}
@@ -44,7 +44,7 @@ module _ {s : State} {es : List Event} (reached : Reached s es) where
 
   -- the step of the process that moves
   module _ (m n : ℕ) (v : In (hs m .processes) n) (z : eventAt es m ≡ step n) (b : Busy hs bs (sinceAt s es n m) m n (taken (W m) n))
-      (e : stepIn (W m) n ≡ stepDone (bs m) (hs m) n (taken (W m) n)) where
+      (e : stepIn (W m) n ≡ stepDoneIn (W m) n) where
     abbrev q : Process
     q = taken (W m) n
 
