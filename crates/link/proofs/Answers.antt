@@ -21,13 +21,14 @@ use Rattle.points.specs.Touch.{Out}
 use Rattle.points.specs.Rows.{rowOf}
 use Rattle.index.specs.Calls.{StepOut}
 use Rattle.history.specs.View.{In, Holds}
+use Rattle.history.specs.Run.{Moment}
 use Rattle.history.specs.Shared.{Desc, Shared, Done, Failed}
-use Rattle.history.proofs.SearchPath.{Moment}
 use Rattle.history.proofs.Runs.{failed-at}
 use Rattle.history.proofs.Quiet.{not-both}
 use Rattle.history.proofs.Swapping.{SwapBetween, swapped-done, failed-never, swap-between}
 use Rattle.link.specs.Events.{Event, start, step, State, taken, stepIn, eventAt, stateAt, blockAt, headerAt, starts, isAnswered, steppedBy, stepsAt, capped, sinceAt}
 use Rattle.link.specs.Swaps.{ChildSwap}
+use Rattle.link.specs.Operations.{Answered}
 use Rattle.link.proofs.Checks.{both-is}
 use Rattle.link.proofs.Moments.{tables, Busy, Why, found, missing, there, not-there, no-room, did, Follows}
 use Rattle.link.proofs.Stepping.{turn, step-sound}
@@ -36,11 +37,6 @@ use Rattle.link.proofs.Calls.{stepRefusedIn}
 use Rattle.link.proofs.Reached.{Good, Doing, idles, works}
 use Rattle.link.proofs.Clauses.{Reached, good, k-at, hk, run, sound, sound₀, grows, stepped-says, swap-at, swap-event, swaps-once}
 use Rattle.link.proofs.Story.{Story, story, capped-up, steps-next}
-
--- event m is a step of process n that answers
-pub record Answered (s : State) (es : List Event) (m n : ℕ) (a : Answer) (steps : ℕ) : Type 0 where
-  pub event : eventAt es m ≡ step n
-  pub answer : stepIn (stateAt s es m) n .answer ≡ Ended a steps
 
 -- what is known then
 pub record Told (s : State) (es : List Event) (k m n : ℕ) (a : Answer) (steps : ℕ) : Type 0 where

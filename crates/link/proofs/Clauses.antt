@@ -21,13 +21,12 @@ use Rattle.points.specs.declared.start.StartAnswer.the-variants as start-answer
 use Rattle.index.specs.Calls.{StartOut, StepOut}
 use Rattle.history.specs.View.{In, route, keys, Reach, Below, Holds}
 use Rattle.history.specs.Shared.{Shared}
-use Rattle.history.specs.Effects.{SameSet, SetMoves}
+use Rattle.history.specs.Effects.{SameSet, SetMoves, Grown, Moved}
 use Rattle.history.specs.Run.{Step, Run, SwapAt, step-swaps}
 use Rattle.history.proofs.Invariant.{Sound}
 use Rattle.history.proofs.SearchOrder.{figure-3}
-use Rattle.history.proofs.ChildWords.{Moved, kids-same, swap-moves}
+use Rattle.history.proofs.ChildWords.{kids-same, swap-moves}
 use Rattle.history.proofs.SetLaws.{step-set-same, step-set-swap}
-use Rattle.history.proofs.Lasting.{Grown}
 use Rattle.history.proofs.Walking.{Listing, listing}
 use Rattle.history.proofs.Runs.{sound-at, grown-at}
 use Rattle.history.proofs.Swapping.{SwapBetween, one-swap}

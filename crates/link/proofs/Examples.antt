@@ -18,9 +18,10 @@ use Rattle.draws.specs.Draw.{leavesFrom, committed, replaceDrawn}
 use Rattle.points.specs.Help.{helpEnded}
 use Rattle.points.specs.Rows.{lookRow, hangRow, unflagRow, row1, row2, row4, row6, row7, row8, rowOf}
 use Rattle.index.specs.Calls.{startCall, stepCall}
+use Rattle.link.specs.Operations.{Answered}
 use Rattle.link.specs.Events.{Event, start, step, State, taken, AllProper, empty, also, stepIn, stateAt, freshState}
 use Rattle.link.proofs.Clauses.{Reached}
-use Rattle.link.proofs.Answers.{Answered, Behind, yes-behind}
+use Rattle.link.proofs.Answers.{Behind, yes-behind}
 use Rattle.link.proofs.Origins.{reached-fresh}
 
 unfoldable pub made : State

@@ -21,9 +21,9 @@ use Rattle.process.specs.declared.Process.{Process}
 use Rattle.damage.specs.Fields.{either, given, zeroOr, pointOfInsert, pointGood, usesIndex, numbersGood, nodesGood, recordsGood, usesGood, processGood}
 use Rattle.damage.specs.Helped.{kindAt, recordGood, helpedGood}
 use Rattle.history.specs.View.{View, In}
+use Rattle.history.specs.Effects.{Grown}
 use Rattle.history.specs.Shared.{Desc, Shared, Failed}
 use Rattle.history.proofs.Invariant.{Sound}
-use Rattle.history.proofs.Lasting.{Grown}
 use Rattle.history.proofs.Touch.{p-used}
 use Rattle.history.proofs.Helps.{Marks, Helps, LooksForL, SwapsL, Ends, Notes, LooksForP, SwapsP, always-one}
 use Rattle.history.proofs.Stacks.{Stacked, stack-depth}

@@ -19,10 +19,9 @@ use Rattle.process.specs.Answer.{goingOn, endingOf}
 use Rattle.points.specs.Help.{helpedL, helpedP, helpedThird}
 use Rattle.history.specs.View.{In, Holds}
 use Rattle.history.specs.Shared.{Shared, Done, Stands}
-use Rattle.history.specs.Run.{Same, Step, rests, Run, step-swaps}
+use Rattle.history.specs.Run.{Same, Step, rests, Run, step-swaps, Moment}
 use Rattle.history.proofs.Invariant.{Sound}
 use Rattle.history.proofs.Runs.{sound-at}
-use Rattle.history.proofs.SearchPath.{Moment}
 use Rattle.history.proofs.Descent.{Way, at-root, way-root}
 use Rattle.history.proofs.Knows.{Mind, KnowsAt, Descends, Serves}
 use Rattle.link.specs.Tables.{viewOf, tablesOf, stackOf}

@@ -15,9 +15,8 @@ use Rattle.process.specs.declared.Process.{Process}
 use Rattle.points.specs.Rows.{rowOf}
 use Rattle.history.specs.View.{In}
 use Rattle.history.specs.Shared.{Desc, Shared}
-use Rattle.history.specs.Effects.{SetMoves}
+use Rattle.history.specs.Effects.{SetMoves, Grown}
 use Rattle.history.proofs.Swapping.{DrawnAt, drawn-between}
-use Rattle.history.proofs.Lasting.{Grown}
 use Rattle.link.specs.Tables.{descOf}
 use Rattle.link.specs.Events.{Event, step, State, taken, stepIn, eventAt, stateAt, blockAt, headerAt, sinceAt, Proper, AllProper, empty, also, freshState}
 use Rattle.link.specs.Swaps.{ChildSwap}

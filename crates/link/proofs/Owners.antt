@@ -14,8 +14,8 @@ use Rattle.process.specs.Process.{startedAs}
 use Rattle.points.specs.Rows.{rowOf}
 use Rattle.link.proofs.Calls.{stepDoneIn}
 use Rattle.history.specs.View.{In, Reach}
+use Rattle.history.specs.Effects.{Grown}
 use Rattle.history.specs.Shared.{Desc, Shared, Stands}
-use Rattle.history.proofs.Lasting.{Grown}
 use Rattle.history.proofs.Quiet.{stands-before, quiet-clean}
 use Rattle.link.specs.Tables.{tablesOf}
 use Rattle.link.specs.Events.{Event, step, State, taken, stepIn, eventAt, stateAt, blockAt, headerAt, sinceAt}

@@ -19,8 +19,9 @@ use Rattle.draws.specs.Draw.{newRecord}
 use Rattle.points.specs.Rows.{rowOf}
 use Rattle.link.proofs.Calls.{putBack, stepDoneIn}
 use Rattle.history.specs.View.{In}
+use Rattle.history.specs.Effects.{Grown}
 use Rattle.history.specs.Shared.{Desc, Shared, Failed}
-use Rattle.history.proofs.Lasting.{Grown, failed-stays}
+use Rattle.history.proofs.Lasting.{failed-stays}
 use Rattle.history.proofs.Knows.{own-failed}
 use Rattle.history.proofs.Swapping.{drawn-between}
 use Rattle.link.specs.Events.{Event, start, step, State, taken, stepIn, eventAt, stateAt, blockAt, headerAt, starts, steppedBy, stepsAt, capped, sinceAt}
