@@ -12,8 +12,7 @@ use borrow.Author.Tests.{lt-ltb, le-ltb, le-leb, eq-eqb, ne-eqb, eqb-true, eqb-f
 use Rattle.tables.specs.Choice.{pick, both, within, decide}
 use Rattle.tables.specs.Numbers.{infinity, numbersGood}
 use Rattle.tables.specs.Layout.{blockWords}
-use Rattle.tables.specs.Refusal.{refusal}
-use Rattle.tables.specs.declared.numbers.Refusal.the-variants.{TooShort, Damaged}
+use Rattle.tables.specs.Refusal.{numberOf, refusal}
 use Rattle.tables.specs.Header.{headerOf, headerGood}
 use Rattle.tables.specs.declared.header.Header.{Header}
 use Rattle.tables.proofs.Picks.{within-low, within-high}
@@ -105,7 +104,7 @@ module _ (s : State) (fit : Fit (headerOf (s .block)) (s .block)) (rows : header
 
   -- how a start goes
   pub data Start (n operation key : ℕ) : Type 0 where
-    refused : (r : ℕ) → refusal r ≢ Damaged → refusal r ≢ TooShort → startIn s n operation key ≡ startRefusedIn s r → Start n operation key
+    refused : (r : ℕ) → 4 ≤ numberOf (refusal r) → numberOf (refusal r) ≤ 7 → startIn s n operation key ≡ startRefusedIn s r → Start n operation key
     accepted : In (h .processes) n → 1 ≤ operation → operation ≤ 3 → key ≢ infinity → taken s n .operation ≡ 0
         → startIn s n operation key ≡ startDoneIn s n operation key → Start n operation key
 
@@ -115,10 +114,10 @@ module _ (s : State) (fit : Fit (headerOf (s .block)) (s .block)) (rows : header
       go (within 1 n (h .processes)) refl (within 1 operation 3) refl (ℕ-discrete key infinity) (ℕ-discrete (taken s n .operation) 0)
     where
       go : (t : Bool) → within 1 n (h .processes) ≡ t → (u : Bool) → within 1 operation 3 ≡ u → Dec (key ≡ infinity) → Dec (taken s n .operation ≡ 0) → Start n operation key
-      go false e u f d z = refused 4 (λ x. let v : _≡_ {A = ℕ} 0 1 = cc in omega arith) (λ x. let v : _≡_ {A = ℕ} 0 1 = cc in omega arith) (rw (t₁, t₂, t₃, t₄, e) refl)
-      go true e false f d z = refused 5 (λ x. let v : _≡_ {A = ℕ} 0 1 = cc in omega arith) (λ x. let v : _≡_ {A = ℕ} 0 1 = cc in omega arith) (rw (t₁, t₂, t₃, t₄, e, f) refl)
-      go true e true f (yes d) z = refused 6 (λ x. let v : _≡_ {A = ℕ} 0 1 = cc in omega arith) (λ x. let v : _≡_ {A = ℕ} 0 1 = cc in omega arith) (rw (t₁, t₂, t₃, t₄, e, f, eq-eqb key infinity d) refl)
-      go true e true f (no d) (no z) = refused 7 (λ x. let v : _≡_ {A = ℕ} 0 1 = cc in omega arith) (λ x. let v : _≡_ {A = ℕ} 0 1 = cc in omega arith) (rw (t₁, t₂, t₃, t₄, e, f, ne-eqb key infinity d, ne-eqb (taken s n .operation) 0 z) refl)
+      go false e u f d z = refused 4 (omega arith) (omega arith) (rw (t₁, t₂, t₃, t₄, e) refl)
+      go true e false f d z = refused 5 (omega arith) (omega arith) (rw (t₁, t₂, t₃, t₄, e, f) refl)
+      go true e true f (yes d) z = refused 6 (omega arith) (omega arith) (rw (t₁, t₂, t₃, t₄, e, f, eq-eqb key infinity d) refl)
+      go true e true f (no d) (no z) = refused 7 (omega arith) (omega arith) (rw (t₁, t₂, t₃, t₄, e, f, ne-eqb key infinity d, ne-eqb (taken s n .operation) 0 z) refl)
       go true e true f (no d) (yes z) =
           accepted (record { low = within-low 1 n (h .processes) e; high = within-high 1 n (h .processes) e }) (within-low 1 operation 3 f) (within-high 1 operation 3 f) d z
           (rw (t₁, t₂, t₃, t₄, e, f, ne-eqb key infinity d, eq-eqb (taken s n .operation) 0 z) refl)

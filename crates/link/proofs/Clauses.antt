@@ -6,10 +6,10 @@ use mathlib.Core.Bool.{Bool, true, false}
 use mathlib.Core.List.{List, List·Memᴰ}
 use native.Mathlib.Omega.{arith}
 use native.Mathlib.Decide.{ℕ-discrete}
-use Rattle.tables.specs.Refusal.{refusal}
+use Rattle.tables.specs.Refusal.{numberOf, refusal}
 use Rattle.tables.specs.declared.header.Header.{Header}
 use Rattle.tables.specs.declared.numbers.Refusal.{Refusal}
-use Rattle.tables.specs.declared.numbers.Refusal.the-variants.{TooShort, Damaged, NoSuchProcess, Idle}
+use Rattle.tables.specs.declared.numbers.Refusal.the-variants.{NoSuchProcess, Idle}
 use Rattle.process.specs.declared.Process.{Process}
 use Rattle.process.specs.declared.Answer.{Answer}
 use Rattle.process.specs.declared.StepAnswer.{StepAnswer}
@@ -109,7 +109,7 @@ module _ {s : State} {es : List Event} (reached : Reached s es) where
   pub sound : (m : ℕ) → Sound k (S m)
   sound m = sound-at hk (run m) sound₀ m (omega arith)
 
-  -- 1. No step is refused but for an unknown or an idle process; no start as damaged or too short.
+  -- 1. No step is refused but for an unknown or an idle process; no start but by 4 to 7.
   pub step-refused : (m n : ℕ) (e : Refusal) → stepIn (W m) n .answer ≡ Refused e → (e ≡ NoSuchProcess) ⊎ (e ≡ Idle)
   step-refused m n e z = go (calls.step-goes (W m) (good m .now .fit) (good m .rows) n)
     where
@@ -134,19 +134,26 @@ module _ {s : State} {es : List Event} (reached : Reached s es) where
           absurd (says (rowOf (bs m) (hs m) n (taken (W m) n) .stepped) (ap (λ (o : StepOut). o .answer) (f (step-sound (good m .now) (taken (W m) n) y)))
           (stepped-says (turn (good m .now) (taken (W m) n) y .follows)))
 
-  pub start-refused : (m n operation key : ℕ) (e : Refusal) → startIn (W m) n operation key .answer ≡ start-answers.Refused e → (e ≢ Damaged) × (e ≢ TooShort)
+  pub start-refused : (m n operation key : ℕ) (e : Refusal) → startIn (W m) n operation key .answer ≡ start-answers.Refused e → (4 ≤ numberOf e) × (numberOf e ≤ 7)
   start-refused m n operation key e z = go (calls.start-goes (W m) (good m .now .fit) (good m .rows) n operation key)
     where
-      same : (d f : Refusal) → start-answers.Refused d ≡ start-answers.Refused f → f ≡ d
+      same : (d f : Refusal) → start-answers.Refused d ≡ start-answers.Refused f → d ≡ f
       same d f x = cc
 
-      go : calls.Start (W m) (good m .now .fit) (good m .rows) n operation key → (e ≢ Damaged) × (e ≢ TooShort)
+      go : calls.Start (W m) (good m .now .fit) (good m .rows) n operation key → (4 ≤ numberOf e) × (numberOf e ≤ 7)
       go (calls.refused r d f x) =
-          let v : e ≡ refusal r = same (refusal r) e (sym (ap (λ (o : StartOut). o .answer) x) ∙ z) in
-          ((λ a. d (sym v ∙ a)), (λ a. f (sym v ∙ a)))
+          subst (λ (a : Refusal). (4 ≤ numberOf a) × (numberOf a ≤ 7)) (same (refusal r) e (sym (ap (λ (o : StartOut). o .answer) x) ∙ z)) (d, f)
       go (calls.accepted u a c d f x) =
           let v : start-answers.Accepted ≡ start-answers.Refused e = sym (ap (λ (o : StartOut). o .answer) x) ∙ z in
           let w : _≡_ {A = ℕ} 0 1 = cc in absurd (omega arith)
+
+  -- an event is a child swap, or is none
+  pub swap? : (m : ℕ) → ((r : ℕ) × ChildSwap s es m r) ⊎ ((r : ℕ) → ¬ ChildSwap s es m r)
+  swap? m = go (moves m .1)
+    where
+      go : KindAt s es m k (moves m .0) → ((r : ℕ) × ChildSwap s es m r) ⊎ ((r : ℕ) → ¬ ChildSwap s es m r)
+      go (none-swaps e d) = inr d
+      go (one-swaps r l w e) = inl (r, w)
 
   -- 2. Figure 3: a key in a leaf below child i of an internal node of the tree goes by child i
   pub search-order : (m n i l x : ℕ) → Reach k (S m .view) n → S m .view .tag n ≡ k → In k i → Below k (S m .view) (S m .view .child n i) l

@@ -36,6 +36,7 @@ pub record Comes (s : State) (es : List Event) (m r : ℕ) : Type 0 where
   pub event : eventAt es when ≡ step n
   pub busy : taken (stateAt s es when) n .operation ≢ 0
   pub next : r ≡ tables (headerAt s es) (blockAt s es) when .records + 1
+  pub counted : tables (headerAt s es) (blockAt s es) (suc when) .records ≡ r
   pub process : tables (headerAt s es) (blockAt s es) m .rec r .process ≡ n
   pub operation : tables (headerAt s es) (blockAt s es) m .rec r .operation ≡ taken (stateAt s es when) n .operation
   pub key : tables (headerAt s es) (blockAt s es) m .rec r .key ≡ taken (stateAt s es when) n .key
@@ -69,6 +70,7 @@ module _ {s : State} {es : List Event} (reached : Reached s es) where
             event = z;
             busy = λ x. omega (arith, b .counters .op-low);
             next = d .next;
+            counted = d .drawn;
             process = ap (λ (x : Desc). x .process) later ∙ by .0;
             operation = ap (λ (x : Desc). x .operation) later ∙ by .2;
             key = ap (λ (x : Desc). x .key) later ∙ by .3;
