@@ -119,7 +119,7 @@ module _ {s : State} {es : List Event} (reached : Reached s es) where
   S = tables (headerAt s es) (blockAt s es)
 
   -- a process with an accepted start exists
-  started-place : (m n i : ℕ) → sinceAt s es n m ≡ suc i → In (headerAt s es m .processes) n
+  pub started-place : (m n i : ℕ) → sinceAt s es n m ≡ suc i → In (headerAt s es m .processes) n
   started-place m n i e = go (outcome (good reached i))
     where
       at : StartAt s es i n
@@ -175,7 +175,7 @@ module _ {s : State} {es : List Event} (reached : Reached s es) where
     busy = comes reached m r u .busy;
   }
 
-  draws-it : (m r : ℕ) (u : In (S m .records) r) → Draws s es (comes reached m r u .when) (comes reached m r u .n) r
+  pub draws-it : (m r : ℕ) (u : In (S m .records) r) → Draws s es (comes reached m r u .when) (comes reached m r u .n) r
   draws-it m r u = record { event = comes reached m r u .event; next = sym (comes reached m r u .next); counted = comes reached m r u .counted }
 
   -- a draw leaves its process busy with the same operation
