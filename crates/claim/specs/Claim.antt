@@ -12,11 +12,12 @@ use Rattle.tables.specs.Fresh.{overFront}
 use Rattle.tables.specs.declared.numbers.Refusal.{Refusal}
 use Rattle.tables.specs.declared.numbers.Refusal.the-variants.{ListTooShort}
 use Rattle.tables.specs.declared.header.Header.{Header}
+use Rattle.process.specs.declared.Process.{Process}
 use Rattle.process.specs.declared.Answer.{Answer}
 use Rattle.process.specs.declared.Answer.the-variants.{No, Yes, Full}
 use Rattle.process.specs.declared.StepAnswer.the-variants as steps
 use Rattle.points.specs.declared.start.StartAnswer.the-variants as starts
-use Rattle.index.specs.Calls.{StartOut, StepOut}
+use Rattle.index.specs.Calls.{MakeOut, makeCall, StartOut, StepOut}
 use Rattle.walk.specs.Calls.{ListOut, listOut, listOf, rangeOf}
 use Rattle.walk.specs.declared.Listed.the-variants as listed
 use Rattle.walk.specs.declared.Cleared.the-variants as cleared
@@ -114,3 +115,10 @@ pub record Claim (s : State) (es : List Event) : Type 0 where
   -- 7. tags and keys of nodes in use and all words of records in use never change, used counts never fall; each draw takes the next free numbers
   pub lasting : (m m′ : ℕ) → m ≤ m′ → Grown (tablesAt s es m) (tablesAt s es m′)
   pub draws : (m : ℕ) → Drawing (headerAt s es m .k) (tablesAt s es m) (tablesAt s es (suc m))
+
+-- what making leaves in the lent block and row
+abbrev pub made : List ℕ → List Process → ℕ → ℕ → ℕ → ℕ → State
+made b row k processes nodes records = record {
+  block = makeCall b row k processes nodes records .block;
+  row = makeCall b row k processes nodes records .row;
+}

@@ -147,14 +147,6 @@ module _ {s : State} {es : List Event} (reached : Reached s es) where
           let v : start-answers.Accepted ≡ start-answers.Refused e = sym (ap (λ (o : StartOut). o .answer) x) ∙ z in
           let w : _≡_ {A = ℕ} 0 1 = cc in absurd (omega arith)
 
-  -- an event is a child swap, or is none
-  pub swap? : (m : ℕ) → ((r : ℕ) × ChildSwap s es m r) ⊎ ((r : ℕ) → ¬ ChildSwap s es m r)
-  swap? m = go (moves m .1)
-    where
-      go : KindAt s es m k (moves m .0) → ((r : ℕ) × ChildSwap s es m r) ⊎ ((r : ℕ) → ¬ ChildSwap s es m r)
-      go (none-swaps e d) = inr d
-      go (one-swaps r l w e) = inl (r, w)
-
   -- 2. Figure 3: a key in a leaf below child i of an internal node of the tree goes by child i
   pub search-order : (m n i l x : ℕ) → Reach k (S m .view) n → S m .view .tag n ≡ k → In k i → Below k (S m .view) (S m .view .child n i) l
       → S m .view .tag l ≢ k → List·Memᴰ x (keys (S m .view) l) → route k (S m .view .key n) x ≡ i
