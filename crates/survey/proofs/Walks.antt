@@ -41,8 +41,11 @@ concat-last f (suc d) i j e =
 abbrev onward : Walk → ℕ → List ℕ → Walk
 onward w met ks = walk (w .allowed - met) (w .keys ++ ks) (w .sound)
 
-same-walk : (a c : ℕ) (k l : List ℕ) (s t : Bool) → a ≡ c → k ≡ l → s ≡ t → walk a k s ≡ walk c l t
-same-walk a c k l s t d e f = cc
+onward-spent : (w : Walk) (met : ℕ) (ks : List ℕ) → onward (spent w) met ks ≡ onward w (suc met) ks
+onward-spent w met ks = let z : w .allowed - 1 - met ≡ w .allowed - suc met = omega arith in rw z refl
+
+onward-twice : (w : Walk) (m n p : ℕ) (ks js ls : List ℕ) → p ≡ m + n → ls ≡ ks ++ js → onward (onward w m ks) n js ≡ onward w p ls
+onward-twice w m n p ks js ls e f = let z : w .allowed - m - n ≡ w .allowed - p = omega arith in rw (z, f, append-assoc (w .keys) ks js) refl
 
 module _ (visit : ℕ → Walk → Walk) (f g : ℕ → List ℕ) where
   abbrev Visits : ℕ → Type 0
@@ -51,14 +54,13 @@ module _ (visit : ℕ → Walk → Walk) (f g : ℕ → List ℕ) where
   order-meets : (d : ℕ) (w : Walk) → Visits d → length (concat-from g d 1) ≤ w .allowed
       → inOrder visit d w ≡ onward w (length (concat-from g d 1)) (concat-from f d 1)
   unfolding inOrder concat-from
-  order-meets zero w v l = same-walk _ _ _ _ _ _ (omega arith) (sym (append-nil (w .keys))) refl
+  order-meets zero w v l = let z : w .allowed - 0 ≡ w .allowed = omega arith in rw (z, append-nil (w .keys)) refl
   order-meets (suc d) w v l =
-      let fs = concat-last f d 1 (suc d) (omega arith) in
       let m : length (concat-from g (suc d) 1) ≡ length (concat-from g d 1) + length (g (suc d)) =
       ap length (concat-last g d 1 (suc d) (omega arith)) ∙ length-append (concat-from g d 1) (g (suc d)) in
       ap (visit (suc d)) (order-meets d w (λ i x u y. v i x (omega arith) y) (omega (arith, m)))
       ∙ v (suc d) (onward w (length (concat-from g d 1)) (concat-from f d 1)) (omega arith) (omega (arith, m))
-      ∙ same-walk _ _ _ _ _ _ (omega (arith, m)) (append-assoc (w .keys) (concat-from f d 1) (f (suc d)) ∙ ap (λ (ks : List ℕ). w .keys ++ ks) (sym fs)) refl
+      ∙ onward-twice w (length (concat-from g d 1)) (length (g (suc d))) _ (concat-from f d 1) (f (suc d)) _ m (concat-last f d 1 (suc d) (omega arith))
 
 module _ {b : List ℕ} {h : Header} (fit : Fit h b) (I : Sound (h .k) (tablesOf h b)) where
   abbrev k : ℕ
@@ -88,9 +90,7 @@ module _ {b : List ℕ} {h : Header} (fit : Fit h b) (I : Sound (h .k) (tablesOf
 
   leaf-meets : (n : ℕ) (w : Walk) → Reach k t n → tagWord b h n ≢ k → leafMet b h n (tagWord b h n) w ≡ walk (w .allowed) (w .keys ++ keys t n) (w .sound)
   leaf-meets n w o e =
-      let ks = keys-are b h n (omega (arith, I .inv .shape .tags n (used o))) in
-      same-walk _ _ _ _ _ _ refl (ap (λ (l : List ℕ). w .keys ++ l) ks)
-      (ap (both (w .sound)) (ap rises ks ∙ sorted-rises (keys t n) (I .inv .shape .leaf-keys n (used o) e)) ∙ both-true (w .sound))
+      rw (keys-are b h n (omega (arith, I .inv .shape .tags n (used o))), sorted-rises (keys t n) (I .inv .shape .leaf-keys n (used o) e), both-true (w .sound)) refl
 
   -- deep enough and with enough nodes allowed, the walk from a node of the tree goes on over the history's nodes and keys
   abbrev Meets : ℕ → ℕ → Walk → Type 0
@@ -113,7 +113,7 @@ module _ {b : List ℕ} {h : Header} (fit : Fit h b) (I : Sound (h .k) (tablesOf
           (order-meets (λ (i : ℕ) (v : Walk). walkOf deep b h (childOf b h n i) v) (λ (i : ℕ). keys-of k t deep (t .child n i)) (λ (i : ℕ). nodes-of k t deep (t .child n i)) k (spent w)
           (λ i v x z. ap (λ (c : Child). walkOf deep b h c v) (child-is n i o q x)
           ∙ ih (childWord b h n i) v (by i o q x refl) (omega (arith, I .inv .shape .above n i (used o) q x)) z) (omega arith)
-          ∙ same-walk _ _ _ _ _ _ (omega arith) refl refl)
+          ∙ onward-spent w _ _)
       go (no q) y ih =
           rw (ne-eqb (w .allowed) 0 (λ z. omega arith), leaf-is n o q) (leaf-meets n (spent w) o q)
 
