@@ -3,7 +3,7 @@ use Prim.Native.Nat.{ℕ, _≤_, _<_}
 use mathlib.Core.Path.{_≡_, refl, sym, ap, _∙_}
 use mathlib.Core.Logic.{_≢_, _⊎_, inl, inr, _↔_}
 use mathlib.Core.Bool.{Bool, true, false, not}
-use mathlib.Core.List.{List, [], _∷_, _++_, List·Memᴰ}
+use mathlib.Core.List.{List, [], _∷_, _++_, List·Memᴰ, List·Memᴰ·head, List·Memᴰ·not-nil}
 use native.Mathlib.Omega.{arith}
 use native.Mathlib.Decide.{ℕ-discrete, decLt}
 use lib.Dec.{ltb, eqb}
@@ -19,21 +19,22 @@ use Rattle.tables.specs.Refusal.{refusal}
 use Rattle.tables.specs.declared.header.Header.{Header}
 use Rattle.tables.specs.declared.numbers.Refusal.{Refusal}
 use Rattle.tables.specs.declared.numbers.Refusal.the-variants.{ListTooShort, InfinityGiven, LowAboveHigh}
-use Rattle.tables.proofs.OneToOne.{none-accepts}
+use Rattle.tables.proofs.OneToOne.{none-accepts, first-refuses}
 use Rattle.walk.specs.Walk.{walked}
 use Rattle.walk.specs.Calls.{keysMet, listRest, listReasons, ListOut, listOut, listOf, partOf, either, anyWithin, rangeRest, rangeReasons, rangeOf}
 use Rattle.walk.specs.declared.Listed.{Listed}
 use Rattle.walk.specs.declared.Listed.the-variants.{Count, Refused as ListRefused}
 use Rattle.walk.specs.declared.Cleared.{Cleared}
 use Rattle.walk.specs.declared.Cleared.the-variants.{No, Yes, Refused as RangeRefused}
-use Rattle.walk.proofs.Answers.{list-first-says, list-counts, range-first-says, Clear, Inside, any-inside, none-clear, clear-yes, range-inside-no, yes-clear, no-inside}
+use Rattle.walk.proofs.Answers.{list-first-says, list-counts, list-count, range-first-says, Clear, Inside, any-inside, none-clear, clear-yes, range-inside-no, yes-clear, no-inside}
 use Rattle.history.proofs.Invariant.{Sound}
 use Rattle.link.specs.Tables.{tablesOf}
 use Rattle.link.proofs.Writes.{Fit}
 use Rattle.link.proofs.Keyed.{holds-mem, holds-not}
 use Rattle.link.proofs.Calls.{limits-good}
-use Rattle.survey.specs.Set.{InSet, ClearOf, Between}
-use Rattle.survey.proofs.Walks.{walk-sound, walk-keys}
+use Rattle.survey.specs.Set.{InSet, Lists, ClearOf, Between}
+use Rattle.survey.proofs.Rows.{rises-one}
+use Rattle.survey.proofs.Walks.{walk-sound, walk-keys, walk-rises}
 
 -- an answer is one thing
 list-apart : (n : ℕ) (e : Refusal) (xs ys : List ℕ) → listOut (Count n) xs ≡ listOut (ListRefused e) ys → ⊥
@@ -74,6 +75,14 @@ module _ {b : List ℕ} (fit : Fit (headerOf b) b) (I : Sound (headerOf b .k) (t
   unharmed : not (walked b h .sound) ≡ false
   unharmed = ap not (walk-sound fit I)
 
+  -- the keys met list the set, and no other row does
+  pub keys-list : Lists b (keysMet b)
+  keys-list = record { exact = walk-keys fit I; ascending = walk-rises fit I }
+
+  pub lists-one : (ks : List ℕ) → Lists b ks → ks ≡ keysMet b
+  lists-one ks l =
+      rises-one ks (keysMet b) (l .ascending) (keys-list .ascending) (λ x m. keys-list .exact x .1 (l .exact x .0 m)) (λ x m. l .exact x .1 (keys-list .exact x .0 m))
+
   -- the listing
   module _ (list : List ℕ) where
     list-fine : length (keysMet b) ≤ length list → NoneHolds (listReasons b (length list))
@@ -82,8 +91,8 @@ module _ {b : List ℕ} (fit : Fit (headerOf b) b) (I : Sound (headerOf b .k) (t
     pub list-answers : length (keysMet b) ≤ length list → listOf b list ≡ listOut (Count (length (keysMet b))) (overFront (keysMet b) list)
     list-answers l = list-counts b list (list-fine l)
 
-    pub list-too-short : length list < length (keysMet b) → listOf b list ≡ listOut (ListRefused ListTooShort) list
-    list-too-short l = list-first-says b list ListTooShort (record {
+    short : length list < length (keysMet b) → First 9 (listReasons b (length list))
+    short l = record {
       before = blockReasons b ++ reason 3 (not (walked b h .sound)) ∷ [];
       this = reason 9 (ltb (length list) (length (keysMet b)));
       after = [];
@@ -91,7 +100,10 @@ module _ {b : List ℕ} (fit : Fit (headerOf b) b) (I : Sound (headerOf b .k) (t
       not-before = block-fine (reason 3 (not (walked b h .sound)) ∷ []) (nor unharmed none);
       holds = lt-ltb (length list) (length (keysMet b)) l;
       number = refl;
-    })
+    }
+
+    pub list-too-short : length list < length (keysMet b) → listOf b list ≡ listOut (ListRefused ListTooShort) list
+    list-too-short l = list-first-says b list ListTooShort (short l)
 
     -- refused only 9, and only where the list is too short
     pub list-refuses : (e : Refusal) → (listOf b list ≡ listOut (ListRefused e) list) ↔ ((e ≡ ListTooShort) × (length list < length (keysMet b)))
@@ -101,9 +113,38 @@ module _ {b : List ℕ} (fit : Fit (headerOf b) b) (I : Sound (headerOf b .k) (t
         go q (yes l) = (list-same ListTooShort e list (sym (list-too-short l) ∙ q), l)
         go q (no l) = absurd (list-apart (length (keysMet b)) e (overFront (keysMet b) list) list (sym (list-answers (omega arith)) ∙ q))
 
-    -- the twin hands back the keys
+    -- the twin hands back the keys, or nothing where it is refused
     pub part-answers : length (keysMet b) ≤ length list → partOf b list ≡ keysMet b
     part-answers l = none-accepts (λ n. []) (keysMet b) (listReasons b (length list)) (list-fine l)
+
+    pub part-too-short : length list < length (keysMet b) → partOf b list ≡ []
+    part-too-short l = first-refuses (λ n. []) (keysMet b) 9 (listReasons b (length list)) (short l)
+
+    -- it answers 0 exactly when the set is empty
+    pub list-empty : (listOf b list .listed ≡ Count 0) ↔ ((x : ℕ) → ¬ InSet b x)
+    list-empty = (λ e x i. bare (keysMet b) (list-count b list 0 e .1) x (keys-list .exact x .1 i), λ f. empties (nothing (keysMet b) (λ x m. f x (keys-list .exact x .0 m))))
+      where
+        bare : (ks : List ℕ) → 0 ≡ length ks → (x : ℕ) → List·Memᴰ x ks → ⊥
+        bare [] e x m = List·Memᴰ·not-nil m
+        bare (y ∷ ys) e x m = omega arith
+
+        nothing : (ks : List ℕ) → ((x : ℕ) → ¬ List·Memᴰ x ks) → length ks ≡ 0
+        nothing [] f = refl
+        nothing (y ∷ ys) f = absurd (f y (List·Memᴰ·head refl))
+
+        empties : length (keysMet b) ≡ 0 → listOf b list .listed ≡ Count 0
+        empties e = ap (λ (o : ListOut). o .listed) (list-answers (omega arith)) ∙ ap Count e
+
+    -- the same by whatever row lists the set
+    module _ {ks : List ℕ} (r : Lists b ks) where
+      pub row-answers : length ks ≤ length list → (listOf b list ≡ listOut (Count (length ks)) (overFront ks list)) × (partOf b list ≡ ks)
+      row-answers l =
+          let e = lists-one ks r in
+          let m : length (keysMet b) ≤ length list = rw e at l in
+          (list-answers m ∙ ap (λ (js : List ℕ). listOut (Count (length js)) (overFront js list)) (sym e), part-answers m ∙ sym e)
+
+      pub row-too-short : length list < length ks → (listOf b list ≡ listOut (ListRefused ListTooShort) list) × (partOf b list ≡ [])
+      row-too-short l = let m : length list < length (keysMet b) = rw (lists-one ks r) at l in (list-too-short m, part-too-short m)
 
   -- a key is in the set or not: the listing tells
   pub held? : (x : ℕ) → Dec (InSet b x)

@@ -23,7 +23,7 @@ use Rattle.link.specs.Events.{Event, State, blockAt, headerAt}
 use Rattle.link.proofs.Writes.{Fit}
 use Rattle.link.proofs.Moments.{now-sound}
 use Rattle.link.proofs.Clauses.{Reached, good, k-at}
-use Rattle.survey.specs.Set.{InSet, ClearOf, Between}
+use Rattle.survey.specs.Set.{InSet, Lists, ClearOf, Between}
 use Rattle.survey.proofs.Walks as walks
 use Rattle.survey.proofs.Calls as calls
 
@@ -56,6 +56,12 @@ module _ {s : State} {es : List Event} (reached : Reached s es) (m : ℕ) where
   pub walk-rises : Rises (keysMet b)
   walk-rises = walks.walk-rises fit I
 
+  pub keys-list : Lists b (keysMet b)
+  keys-list = calls.keys-list fit I
+
+  pub lists-one : (ks : List ℕ) → Lists b ks → ks ≡ keysMet b
+  lists-one = calls.lists-one fit I
+
   pub block-fine : NoneHolds (blockReasons b)
   block-fine = calls.block-fine fit I [] none
 
@@ -72,10 +78,29 @@ module _ {s : State} {es : List Event} (reached : Reached s es) (m : ℕ) where
   pub part-answers : (list : List ℕ) → length (keysMet b) ≤ length list → partOf b list ≡ keysMet b
   part-answers = calls.part-answers fit I
 
+  pub part-too-short : (list : List ℕ) → length list < length (keysMet b) → partOf b list ≡ []
+  part-too-short = calls.part-too-short fit I
+
+  -- the same by whatever row lists the set
+  pub row-answers : (list : List ℕ) {ks : List ℕ} → Lists b ks → length ks ≤ length list → (listOf b list ≡ listOut (Count (length ks)) (overFront ks list)) × (partOf b list ≡ ks)
+  row-answers list r = calls.row-answers fit I list r
+
+  pub row-too-short : (list : List ℕ) {ks : List ℕ} → Lists b ks → length list < length ks → (listOf b list ≡ listOut (ListRefused ListTooShort) list) × (partOf b list ≡ [])
+  row-too-short list r = calls.row-too-short fit I list r
+
+  pub list-empty : (list : List ℕ) → (listOf b list .listed ≡ Count 0) ↔ ((x : ℕ) → ¬ InSet b x)
+  list-empty = calls.list-empty fit I
+
   -- range
   module _ (low high : ℕ) where
     pub range-refuses : (e : Refusal) → rangeOf b low high ≡ RangeRefused e → ((e ≡ InfinityGiven) × ((low ≡ infinity) ⊎ (high ≡ infinity))) ⊎ ((e ≡ LowAboveHigh) × (high < low))
     range-refuses = calls.range-refuses fit I low high
+
+    pub range-infinite : (low ≡ infinity) ⊎ (high ≡ infinity) → rangeOf b low high ≡ RangeRefused InfinityGiven
+    range-infinite = calls.range-infinite fit I low high
+
+    pub range-above : low ≢ infinity → high ≢ infinity → high < low → rangeOf b low high ≡ RangeRefused LowAboveHigh
+    range-above = calls.range-above fit I low high
 
     module _ (p : low ≢ infinity) (q : high ≢ infinity) (l : low ≤ high) where
       pub range-yes : (rangeOf b low high ≡ Yes) ↔ ClearOf b low high
