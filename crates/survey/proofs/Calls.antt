@@ -13,18 +13,15 @@ use Rattle.tables.specs.Choice.{pick, Reason, reason, NoneHolds, none, nor, Fir
 use Rattle.tables.specs.Numbers.{infinity}
 use Rattle.tables.specs.Keys.{holds}
 use Rattle.tables.specs.Layout.{blockWords}
-use Rattle.tables.specs.Header.{headerOf, headerGood, blockReasons}
+use Rattle.tables.specs.Header.{headerOf, blockReasons}
 use Rattle.tables.specs.Fresh.{overFront}
-use Rattle.tables.specs.Refusal.{refusal}
 use Rattle.tables.specs.declared.header.Header.{Header}
 use Rattle.tables.specs.declared.numbers.Refusal.{Refusal}
 use Rattle.tables.specs.declared.numbers.Refusal.the-variants.{ListTooShort, InfinityGiven, LowAboveHigh}
 use Rattle.tables.proofs.OneToOne.{none-accepts, first-refuses}
 use Rattle.walk.specs.Walk.{walked}
 use Rattle.walk.specs.Calls.{keysMet, listRest, listReasons, ListOut, listOut, listOf, partOf, either, anyWithin, rangeRest, rangeReasons, rangeOf}
-use Rattle.walk.specs.declared.Listed.{Listed}
 use Rattle.walk.specs.declared.Listed.the-variants.{Count, Refused as ListRefused}
-use Rattle.walk.specs.declared.Cleared.{Cleared}
 use Rattle.walk.specs.declared.Cleared.the-variants.{No, Yes, Refused as RangeRefused}
 use Rattle.walk.proofs.Answers.{list-first-says, list-counts, list-count, range-first-says, Clear, Inside, any-inside, none-clear, clear-yes, range-inside-no, yes-clear, no-inside}
 use Rattle.history.proofs.Invariant.{Sound}

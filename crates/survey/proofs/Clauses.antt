@@ -39,9 +39,10 @@ module _ {s : State} {es : List Event} (reached : Reached s es) (m : ℕ) where
 
   -- the set, by the k of the whole run
   pub set-at : (x : ℕ) → InSet b x ↔ Holds (headerAt s es 0 .k) (tablesOf (headerAt s es m) b .view) x
-  set-at x =
-      (λ i. subst (λ (k : ℕ). Holds k (tablesOf (headerAt s es m) b .view) x) (k-at reached m) i,
-      λ i. subst (λ (k : ℕ). Holds k (tablesOf (headerAt s es m) b .view) x) (sym (k-at reached m)) i)
+  set-at x = (
+    λ i. subst (λ (k : ℕ). Holds k (tablesOf (headerAt s es m) b .view) x) (k-at reached m) i,
+    λ i. subst (λ (k : ℕ). Holds k (tablesOf (headerAt s es m) b .view) x) (sym (k-at reached m)) i,
+  )
 
   pub held? : (x : ℕ) → Dec (InSet b x)
   held? = calls.held? fit I

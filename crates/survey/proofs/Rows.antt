@@ -4,7 +4,7 @@ use mathlib.Core.Path.{_≡_, refl, sym, ap, _∙_}
 use mathlib.Core.Logic.{_⊎_, inl, inr}
 use mathlib.Core.List.{List, [], _∷_, List·Memᴰ, List·Memᴰ·head, List·Memᴰ·tail, List·Memᴰ·not-nil, List·Memᴰ·cases-cons}
 use native.Mathlib.Omega.{arith}
-use Rattle.history.specs.Keys.{Rises, none, next}
+use Rattle.history.specs.Keys.{Rises, next}
 
 abbrev Into : List ℕ → List ℕ → Type 0
 Into xs ys = (x : ℕ) → List·Memᴰ x xs → List·Memᴰ x ys

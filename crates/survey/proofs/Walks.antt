@@ -2,17 +2,16 @@
 use Prim.Native.Nat.{ℕ, zero, suc, _+_, _-_, _≤_, _<_}
 use mathlib.Core.Path.{_≡_, refl, sym, ap, _∙_, subst}
 use mathlib.Core.Logic.{_≢_, _↔_}
-use mathlib.Core.Bool.{Bool, true, false}
+use mathlib.Core.Bool.{true}
 use mathlib.Core.List.{List, [], _∷_, _++_, List·Memᴰ, append-nil, append-assoc}
 use native.Mathlib.Omega.{arith}
 use native.Mathlib.Decide.{ℕ-discrete}
 use lib.Dec.{eqb}
 use lib.ListN.{length, length-append}
 use borrow.Author.Tests.{lt-ltb, ne-eqb}
-use Rattle.tables.specs.Choice.{pick, both}
+use Rattle.tables.specs.Choice.{pick}
 use Rattle.tables.specs.Layout.{tagWord, childWord}
 use Rattle.tables.specs.Node.{kinOf, childOf}
-use Rattle.tables.specs.Keys.{keysOf, rises}
 use Rattle.tables.specs.declared.header.Header.{Header}
 use Rattle.tables.specs.declared.node.Kin.the-variants.{Leaf, Internal}
 use Rattle.tables.specs.declared.node.Child.{Child}
@@ -22,10 +21,10 @@ use Rattle.walk.proofs.Walks.{both-true}
 use Rattle.history.specs.View.{View, In, keys, Reach, top, by, Holds}
 use Rattle.history.specs.Keys.{Rises}
 use Rattle.history.specs.Walk.{concat-from, nodes-of, keys-of}
-use Rattle.history.proofs.Invariant.{Shape, Sound}
-use Rattle.history.proofs.Touch.{reach-used, child-used}
+use Rattle.history.proofs.Invariant.{Sound}
+use Rattle.history.proofs.Touch.{reach-used}
 use Rattle.history.proofs.Walking.{Listing, listing}
-use Rattle.link.specs.Tables.{viewOf, tablesOf}
+use Rattle.link.specs.Tables.{tablesOf}
 use Rattle.link.proofs.Writes.{Fit}
 use Rattle.link.proofs.Keyed.{keys-are, sorted-rises}
 use Rattle.link.proofs.Checks.{kin-is, kin-internal, kin-leaf}
