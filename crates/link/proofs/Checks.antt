@@ -80,7 +80,7 @@ module _ (b : List ℕ) (h : Header) where
   unfolding pick
   kin-leaf n l = rw (lt-ltb (tagWord b h n) (h .k) l) refl
 
-  kin-is : (n : ℕ) → In (h .nodesused) n → tagWord b h n ≤ h .k → kinOf b h n ≡ Node (kinOfTag h n (tagWord b h n))
+  pub kin-is : (n : ℕ) → In (h .nodesused) n → tagWord b h n ≤ h .k → kinOf b h n ≡ Node (kinOfTag h n (tagWord b h n))
   unfolding pick
   kin-is n i l = rw (good-tag n i l) refl
 
