@@ -5,6 +5,7 @@ use mathlib.Core.Logic.{_≢_, _⊎_, inl, inr, _↔_}
 use mathlib.Core.List.{List, List·Memᴰ}
 use native.Mathlib.Omega.{arith}
 use native.Mathlib.Decide.{decLe, decLt}
+use Rattle.tables.specs.Numbers.{infinity}
 use Rattle.tables.specs.Refusal.{numberOf}
 use Rattle.tables.specs.declared.numbers.Refusal.{Refusal}
 use Rattle.tables.specs.declared.numbers.Refusal.the-variants.{NoSuchProcess, Idle}
@@ -14,6 +15,8 @@ use Rattle.process.specs.declared.Answer.{Answer}
 use Rattle.process.specs.declared.Answer.the-variants.{No, Yes, Full}
 use Rattle.process.specs.declared.StepAnswer.the-variants as steps
 use Rattle.index.specs.Calls.{StepOut}
+use Rattle.walk.specs.Calls.{keysMet, rangeOf}
+use Rattle.walk.specs.declared.Cleared.the-variants as cleared
 use Rattle.history.specs.View.{In, route, keys, Reach, Below, Holds}
 use Rattle.history.specs.Shared.{Desc, Shared}
 use Rattle.history.specs.Change.{Change, Drawn, put-leaf, out-leaf, sprout, draw-replace, draw-prune, swap-replace, unflag-replace, mark, swap-prune, unflag-prune}
@@ -31,8 +34,9 @@ use Rattle.link.proofs.Story.{Story, story}
 use Rattle.link.proofs.Answers as told-of
 use Rattle.link.proofs.Answers.{Told, told, Drawn as DrawnSince, Behind}
 use Rattle.link.proofs.Origins.{Comes, comes}
+use Rattle.survey.proofs.Clauses as survey
 use Rattle.claim.proofs.Operations.{start-same, since-start, since-between, busy-story, busy-is, one-operation, its-operation, draws-it, still-busy, drawn-late, ended, started-place}
-use Rattle.claim.specs.Claim.{Claim, Lists, Ranges, Added, Removed, Changes, put-in, taken-out, SwapOf, Drawing, nothing, a-leaf, a-sprout, a-prune}
+use Rattle.claim.specs.Claim.{Claim, Listing, Range, clear, met, Added, Removed, Changes, put-in, taken-out, SwapOf, Drawing, nothing, a-leaf, a-sprout, a-prune}
 
 module _ {s : State} {es : List Event} (reached : Reached s es) where
   abbrev W : ℕ → State
@@ -280,13 +284,35 @@ module _ {s : State} {es : List Event} (reached : Reached s es) where
       go (changes (unflag-prune q h kd e x w same)) = nothing (same .records-same) (same .nodes-same)
       go (rests e) = nothing (e .tables .records-same) (e .tables .nodes-same)
 
+  listing : (m : ℕ) → Listing s es m
+  listing m = record {
+    keys = keysMet (blockAt s es m);
+    set = survey.keys-list reached m;
+    call = survey.list-answers reached m;
+    twin = survey.part-answers reached m;
+    short = survey.list-too-short reached m;
+  }
+
+  range : (m low high : ℕ) → low ≤ high → high < infinity → Range s es m low high
+  range m low high l h = go (survey.range-answers reached m low high p q l)
+    where
+      p : low ≢ infinity
+      p e = omega arith
+
+      q : high ≢ infinity
+      q e = omega arith
+
+      go : (rangeOf (blockAt s es m) low high ≡ cleared.Yes) ⊎ (rangeOf (blockAt s es m) low high ≡ cleared.No) → Range s es m low high
+      go (inl e) = clear e (survey.range-yes reached m low high p q l .0 e)
+      go (inr e) = met e (survey.range-no reached m low high p q l .0 e)
+
   pub claimed : Claim s es
   claimed = record {
     start-refused = link.start-refused reached;
     step-refused = step-refused;
     search-order = search-order;
-    listing = ?listing;
-    range = ?range;
+    listing = listing;
+    range = range;
     words-stay = words-stay;
     words-change = words-change;
     set-stays = set-stays;

@@ -23,7 +23,7 @@ use Rattle.link.specs.Swaps.{Swapping, seven, thirteen, ChildSwap}
 use Rattle.link.specs.Operations.{Started, OperationOf}
 use Rattle.link.specs.Sets.{InSet}
 use Rattle.claim.proofs.Operations.{start-same}
-use Rattle.claim.specs.Claim.{Claim, Added, Removed, Changes, put-in, taken-out, SwapOf, Lists, Ranges, clear, met}
+use Rattle.claim.specs.Claim.{Claim, Added, Removed, Changes, put-in, taken-out, SwapOf, Listing, Range, clear, met}
 use Rattle.claim.specs.Flushed.{PutIn, TakenOut, Flushed}
 
 -- whether an event is a child swap can be told
@@ -144,19 +144,19 @@ module _ {s : State} {es : List Event} (claim : Claim s es) where
   pub range-clear : (m low high : ℕ) → low ≤ high → high < infinity → rangeOf (blockAt s es m) low high ≡ Yes → Flushed s es m low high
   range-clear m low high a c e = go (claim .range m low high a c)
     where
-      go : Ranges s es m low high → Flushed s es m low high
+      go : Range s es m low high → Flushed s es m low high
       go (clear f none) = flushed m low high none
-      go (met f x l h held) = absurd (let z : Yes ≡ No = sym e ∙ f in let v : _≡_ {A = ℕ} 0 1 = cc in omega arith)
+      go (met f x) = absurd (let z : Yes ≡ No = sym e ∙ f in let v : _≡_ {A = ℕ} 0 1 = cc in omega arith)
 
   -- "or the listing is empty"
   pub listing-empty : (m : ℕ) (list : List ℕ) → listOf (blockAt s es m) list .listed ≡ Count 0 → Flushed s es m 0 infinity
   listing-empty m list e = go (claim .listing m .keys) refl (decLe (length (claim .listing m .keys)) (length list))
     where
-      full : Lists s es m
+      full : Listing s es m
       full = claim .listing m
 
       go : (ks : List ℕ) → full .keys ≡ ks → Dec (length (full .keys) ≤ length list) → Flushed s es m 0 infinity
-      go [] z (yes l) = flushed m 0 infinity (λ x a c h. List·Memᴰ·not-nil (subst (λ (v : List ℕ). List·Memᴰ x v) z (full .exact x .1 h)))
+      go [] z (yes l) = flushed m 0 infinity (λ x a c h. List·Memᴰ·not-nil (subst (λ (v : List ℕ). List·Memᴰ x v) z (full .set .exact x .1 h)))
       go (y ∷ ys) z (yes l) =
           let n : Count (length (full .keys)) ≡ Count 0 = sym (ap (λ (o : ListOut). o .listed) (full .call list l)) ∙ e in
           let v : length (full .keys) ≡ 0 = cc in

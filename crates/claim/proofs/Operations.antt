@@ -294,5 +294,5 @@ module _ {s : State} {es : List Event} (reached : Reached s es) where
       let up : suc m + suc d ≡ suc (suc m + d) = omega arith in
       let e′ : sinceAt s es n (suc (suc m + d)) ≡ suc i = ap (sinceAt s es n) (sym up) ∙ e in
       let before : sinceAt s es n (suc m + d) ≡ suc i =
-          since-between s es (suc (suc m + d)) n (suc m + d) (omega (arith, since-start s es m n i last .1)) (omega arith) ∙ e′ in
+      since-between s es (suc (suc m + d)) n (suc m + d) (omega (arith, since-start s es m n i last .1)) (omega arith) ∙ e′ in
       subst (λ (t : ℕ). taken (W t) n .operation ≡ 0) (sym up) (stays-idle (suc m + d) n i before e′ (ended m n i a c x last d before))

@@ -1,6 +1,6 @@
 -- Demand 3: what holds of every list of starts and steps from a state, at every moment of it. One field for each clause.
--- Moment m is before event m and after all events before it. The words that it is said in: link/specs (Events, Operations, Swaps, Sets)
--- and history/specs (View: the tree and the set; Effects: what changes).
+-- Moment m is before event m and after all events before it. The words that it is said in: link/specs (Events, Operations, Swaps, Sets),
+-- survey/specs (Set) and history/specs (View: the tree and the set; Effects: what changes).
 use Prim.Native.Nat.{ℕ, suc, _+_, _≤_, _<_}
 use mathlib.Core.Path.{_≡_}
 use mathlib.Core.Logic.{_≢_, _⊎_, _↔_}
@@ -18,11 +18,10 @@ use Rattle.process.specs.declared.Answer.the-variants.{No, Yes, Full}
 use Rattle.process.specs.declared.StepAnswer.the-variants as steps
 use Rattle.points.specs.declared.start.StartAnswer.the-variants as starts
 use Rattle.index.specs.Calls.{MakeOut, makeCall, StartOut, StepOut}
-use Rattle.walk.specs.Calls.{ListOut, listOut, listOf, rangeOf}
+use Rattle.walk.specs.Calls.{ListOut, listOut, listOf, partOf, rangeOf}
 use Rattle.walk.specs.declared.Listed.the-variants as listed
 use Rattle.walk.specs.declared.Cleared.the-variants as cleared
 use Rattle.history.specs.View.{In, route, keys, Reach, Below}
-use Rattle.history.specs.Keys.{Rises}
 use Rattle.history.specs.Shared.{Desc, Shared}
 use Rattle.history.specs.Effects.{Moved, Grown}
 use Rattle.history.specs.Run.{Moment}
@@ -30,19 +29,20 @@ use Rattle.link.specs.Events.{Event, State, startIn, stepIn, stateAt, blockAt, 
 use Rattle.link.specs.Swaps.{ChildSwap}
 use Rattle.link.specs.Operations.{Started, BusyWith, OperationOf, Answered}
 use Rattle.link.specs.Sets.{tablesAt, viewAt, InSet}
+use Rattle.survey.specs.Set.{Lists, ClearOf, Between}
 
--- what listing returns at a moment: the set, ascending; refused 9 for a list that is too short, and not otherwise
-pub record Lists (s : State) (es : List Event) (m : ℕ) : Type 0 where
+-- what listing and its twin return at a moment: the set, strictly ascending; refused 9 for a list that is too short, and not otherwise
+pub record Listing (s : State) (es : List Event) (m : ℕ) : Type 0 where
   pub keys : List ℕ
-  pub exact : (x : ℕ) → List·Memᴰ x keys ↔ InSet s es m x
-  pub ascending : Rises keys
+  pub set : Lists (blockAt s es m) keys
   pub call : (list : List ℕ) → length keys ≤ length list → listOf (blockAt s es m) list ≡ listOut (listed.Count (length keys)) (overFront keys list)
+  pub twin : (list : List ℕ) → length keys ≤ length list → partOf (blockAt s es m) list ≡ keys
   pub short : (list : List ℕ) → length list < length keys → listOf (blockAt s es m) list ≡ listOut (listed.Refused ListTooShort) list
 
 -- what range answers at a moment: yes, and no key of the set lies from low to high; or no, and one does
-pub data Ranges (s : State) (es : List Event) (m low high : ℕ) : Type 0 where
-  clear : rangeOf (blockAt s es m) low high ≡ cleared.Yes → ((x : ℕ) → low ≤ x → x ≤ high → ¬ InSet s es m x) → Ranges s es m low high
-  met : rangeOf (blockAt s es m) low high ≡ cleared.No → (x : ℕ) → low ≤ x → x ≤ high → InSet s es m x → Ranges s es m low high
+pub data Range (s : State) (es : List Event) (m low high : ℕ) : Type 0 where
+  clear : rangeOf (blockAt s es m) low high ≡ cleared.Yes → ClearOf (blockAt s es m) low high → Range s es m low high
+  met : rangeOf (blockAt s es m) low high ≡ cleared.No → Between (blockAt s es m) low high → Range s es m low high
 
 -- the set with x put in, which was not there, and with x taken out, which was; no other key comes or goes
 pub record Added (s : State) (es : List Event) (m x : ℕ) : Type 0 where
@@ -84,8 +84,8 @@ pub record Claim (s : State) (es : List Event) : Type 0 where
       → Below (headerAt s es m .k) (viewAt s es m) (viewAt s es m .child n i) l → viewAt s es m .tag l ≢ headerAt s es m .k
       → List·Memᴰ x (keys (viewAt s es m) l) → route (headerAt s es m .k) (viewAt s es m .key n) x ≡ i
   -- "the key set read from the leaves": listing returns exactly it, and range answers by it
-  pub listing : (m : ℕ) → Lists s es m
-  pub range : (m low high : ℕ) → low ≤ high → high < infinity → Ranges s es m low high
+  pub listing : (m : ℕ) → Listing s es m
+  pub range : (m low high : ℕ) → low ≤ high → high < infinity → Range s es m low high
   -- 3. "changes only at a child swap": child words of nodes in use, and the set
   pub words-stay : (m : ℕ) → ((r : ℕ) → ¬ ChildSwap s es m r) → (n i : ℕ) → In (tablesAt s es m .nodes) n → In (headerAt s es m .k) i
       → viewAt s es (suc m) .child n i ≡ viewAt s es m .child n i

@@ -29,7 +29,8 @@ use Rattle.link.specs.Tables.{tablesOf}
 use Rattle.link.proofs.Writes.{Fit}
 use Rattle.link.proofs.Keyed.{holds-mem, holds-not}
 use Rattle.link.proofs.Calls.{limits-good}
-use Rattle.survey.specs.Set.{InSet, Lists, ClearOf, Between}
+use Rattle.link.specs.Sets.{Has}
+use Rattle.survey.specs.Set.{Lists, ClearOf, Between}
 use Rattle.survey.proofs.Rows.{rises-one}
 use Rattle.survey.proofs.Walks.{walk-sound, walk-keys, walk-rises}
 
@@ -118,7 +119,7 @@ module _ {b : List ℕ} (fit : Fit (headerOf b) b) (I : Sound (headerOf b .k) (t
     part-too-short l = first-refuses (λ n. []) (keysMet b) 9 (listReasons b (length list)) (short l)
 
     -- it answers 0 exactly when the set is empty
-    pub list-empty : (listOf b list .listed ≡ Count 0) ↔ ((x : ℕ) → ¬ InSet b x)
+    pub list-empty : (listOf b list .listed ≡ Count 0) ↔ ((x : ℕ) → ¬ Has b x)
     list-empty = (λ e x i. bare (keysMet b) (list-count b list 0 e .1) x (keys-list .exact x .1 i), λ f. empties (nothing (keysMet b) (λ x m. f x (keys-list .exact x .0 m))))
       where
         bare : (ks : List ℕ) → 0 ≡ length ks → (x : ℕ) → List·Memᴰ x ks → ⊥
@@ -144,10 +145,10 @@ module _ {b : List ℕ} (fit : Fit (headerOf b) b) (I : Sound (headerOf b .k) (t
       row-too-short l = let m : length list < length (keysMet b) = rw (lists-one ks r) at l in (list-too-short m, part-too-short m)
 
   -- a key is in the set or not: the listing tells
-  pub held? : (x : ℕ) → Dec (InSet b x)
+  pub held? : (x : ℕ) → Dec (Has b x)
   held? x = go (holds x (keysMet b)) refl
     where
-      go : (t : Bool) → holds x (keysMet b) ≡ t → Dec (InSet b x)
+      go : (t : Bool) → holds x (keysMet b) ≡ t → Dec (Has b x)
       go true e = yes (walk-keys fit I x .0 (holds-mem x (keysMet b) e))
       go false e = no (λ s. holds-not x (keysMet b) e (walk-keys fit I x .1 s))
 

@@ -23,7 +23,8 @@ use Rattle.link.specs.Events.{Event, State, blockAt, headerAt}
 use Rattle.link.proofs.Writes.{Fit}
 use Rattle.link.proofs.Moments.{now-sound}
 use Rattle.link.proofs.Clauses.{Reached, good, k-at}
-use Rattle.survey.specs.Set.{InSet, Lists, ClearOf, Between}
+use Rattle.link.specs.Sets.{Has}
+use Rattle.survey.specs.Set.{Lists, ClearOf, Between}
 use Rattle.survey.proofs.Walks as walks
 use Rattle.survey.proofs.Calls as calls
 
@@ -38,20 +39,20 @@ module _ {s : State} {es : List Event} (reached : Reached s es) (m : ℕ) where
   I = now-sound (good reached m .now)
 
   -- the set, by the k of the whole run
-  pub set-at : (x : ℕ) → InSet b x ↔ Holds (headerAt s es 0 .k) (tablesOf (headerAt s es m) b .view) x
+  pub set-at : (x : ℕ) → Has b x ↔ Holds (headerAt s es 0 .k) (tablesOf (headerAt s es m) b .view) x
   set-at x = (
     λ i. subst (λ (k : ℕ). Holds k (tablesOf (headerAt s es m) b .view) x) (k-at reached m) i,
     λ i. subst (λ (k : ℕ). Holds k (tablesOf (headerAt s es m) b .view) x) (sym (k-at reached m)) i,
   )
 
-  pub held? : (x : ℕ) → Dec (InSet b x)
+  pub held? : (x : ℕ) → Dec (Has b x)
   held? = calls.held? fit I
 
   -- the walk meets no damage, and its keys are the set, strictly ascending
   pub walk-sound : walked b (headerAt s es m) .sound ≡ true
   walk-sound = walks.walk-sound fit I
 
-  pub walk-keys : (x : ℕ) → List·Memᴰ x (keysMet b) ↔ InSet b x
+  pub walk-keys : (x : ℕ) → List·Memᴰ x (keysMet b) ↔ Has b x
   walk-keys = walks.walk-keys fit I
 
   pub walk-rises : Rises (keysMet b)
@@ -89,7 +90,7 @@ module _ {s : State} {es : List Event} (reached : Reached s es) (m : ℕ) where
   pub row-too-short : (list : List ℕ) {ks : List ℕ} → Lists b ks → length list < length ks → (listOf b list ≡ listOut (ListRefused ListTooShort) list) × (partOf b list ≡ [])
   row-too-short list r = calls.row-too-short fit I list r
 
-  pub list-empty : (list : List ℕ) → (listOf b list .listed ≡ Count 0) ↔ ((x : ℕ) → ¬ InSet b x)
+  pub list-empty : (list : List ℕ) → (listOf b list .listed ≡ Count 0) ↔ ((x : ℕ) → ¬ Has b x)
   list-empty = calls.list-empty fit I
 
   -- range
