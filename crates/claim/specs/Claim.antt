@@ -75,7 +75,7 @@ pub data Drawing (k : ℕ) (S S′ : Shared) : Type 0 where
   a-prune : S′ .records ≡ S .records + 1 → S′ .nodes ≡ S .nodes → S′ .rec (S .records + 1) .kind ≡ 2 → Drawing k S S′
 
 pub record Claim (s : State) (es : List Event) : Type 0 where
-  -- 1. "a parked task must hold up nobody": no start is refused but 4 to 7, no step but 4 and 8, so none 3 (damaged)
+  -- 1. No start is refused but by 4 to 7 and no step but by 4 or 8: whatever the others have done, none is damaged (3)
   pub start-refused : (m n operation key : ℕ) (e : Refusal) → startIn (stateAt s es m) n operation key .answer ≡ starts.Refused e
       → (4 ≤ numberOf e) × (numberOf e ≤ 7)
   pub step-refused : (m n : ℕ) (e : Refusal) → stepIn (stateAt s es m) n .answer ≡ steps.Refused e → (numberOf e ≡ 4) ⊎ (numberOf e ≡ 8)
