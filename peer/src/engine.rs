@@ -370,7 +370,7 @@ impl<'a> Tables<'a> {
         }
     }
 
-    fn first_keys(&self, node: u32, count: u32) -> &'a [u32] {
+    pub fn first_keys(&self, node: u32, count: u32) -> &'a [u32] {
         let at = self.header.node_at(node) + 1;
         &self.words[at..at + count as usize]
     }

@@ -4,6 +4,7 @@
 mod bench;
 mod compare;
 mod damaged;
+mod draw;
 mod engine;
 mod fault;
 mod history;
@@ -22,6 +23,7 @@ use std::process::ExitCode;
 const USAGE: &str = "\
 peer bench                            what the bench prints for the standard input
 peer runs                             the runs (a) to (j), the example and the runs-only numbers
+peer draw                             the tree that a bench script on the standard input leaves, as text
 peer script SEED                      the random bench script of a seed
 peer expect FIRST COUNT FOLDER        SEED.in and SEED.out for COUNT seeds
 peer compare FIRST COUNT -- COMMAND.. runs the command on each script, compares every byte
@@ -41,8 +43,9 @@ fn main() -> ExitCode {
 
 fn called(words: &[&str]) -> Option<ExitCode> {
     Some(match *words {
-        ["bench"] => run_bench(),
+        ["bench"] => of_input(|input| Ok(bench::run(input))),
         ["runs"] => runs::check(),
+        ["draw"] => of_input(|input| draw::draw(input).map(String::into_bytes)),
         ["script", seed] => print(&script::script(number(seed)?)),
         ["expect", first, count, folder] => compare::expect(number(first)?, number(count)?, folder),
         ["compare", first, count, "--", ref command @ ..] if !command.is_empty() => {
@@ -67,12 +70,19 @@ fn print(bytes: &[u8]) -> ExitCode {
     }
 }
 
-fn run_bench() -> ExitCode {
+/// Prints what is said of the standard input, or why nothing is.
+fn of_input(say: impl Fn(&[u8]) -> Result<Vec<u8>, &'static str>) -> ExitCode {
     let mut input = Vec::new();
     if std::io::stdin().read_to_end(&mut input).is_err() {
         return ExitCode::FAILURE;
     }
-    print(&bench::run(&input))
+    match say(&input) {
+        Ok(said) => print(&said),
+        Err(why) => {
+            eprintln!("peer: {why}");
+            ExitCode::FAILURE
+        }
+    }
 }
 
 fn all_faults(first: u64, count: u64) -> ExitCode {
