@@ -1,4 +1,5 @@
-//! What a bench script leaves, drawn as text: the tree in the order of the walk, the nodes out of it, the records, the busy processes.
+//! What a bench script leaves, drawn as text: the tree in the order of the walk, the nodes out of
+//! it, the records, the busy processes.
 
 use crate::bench::{op_word, ran};
 use crate::engine::*;
