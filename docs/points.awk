@@ -68,7 +68,7 @@ function table(    i, j, line) {
 function put(name, at_x, at_y) { x[name] = at_x; y[name] = at_y }
 
 # From the edge of one box to the edge of another, straight; or bent by two points that the layout names.
-function arrow(a, b,    dx, dy, s, t, from_x, from_y, to_x, to_y) {
+function arrow(a, b,    dx, dy, s) {
     if ((a, b) in bend) { print "<path d=\"" bend[a, b] "\"/>"; return }
     dx = x[b] - x[a]; dy = y[b] - y[a]
     s = edge(dx, dy)
