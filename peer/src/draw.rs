@@ -3,9 +3,16 @@
 
 use crate::bench::{op_word, ran};
 use crate::engine::*;
+use std::io::Read;
 
-/// The drawing, or what stood in its way.
-pub fn draw(input: &[u8]) -> Result<String, &'static str> {
+/// What the standard input's script leaves, or why it cannot be drawn.
+pub fn of_input() -> String {
+    let mut input = Vec::new();
+    let read = std::io::stdin().read_to_end(&mut input).map_err(|_| "the input cannot be read");
+    read.and_then(|_| draw(&input)).unwrap_or_else(|why| format!("{why}\n"))
+}
+
+fn draw(input: &[u8]) -> Result<String, &'static str> {
     let bench = ran(input);
     let (block, row) = bench.tables().ok_or("the script makes no tables")?;
     let tables = Tables::enter(block, Some(row.len())).map_err(|_| "the tables are damaged")?;

@@ -23,10 +23,10 @@ use std::process::ExitCode;
 const USAGE: &str = "\
 peer bench                            what the bench prints for the standard input
 peer runs                             the runs (a) to (j), the example and the runs-only numbers
-peer draw                             the tree that a bench script on the standard input leaves, as text
 peer script SEED                      the random bench script of a seed
 peer expect FIRST COUNT FOLDER        SEED.in and SEED.out for COUNT seeds
 peer compare FIRST COUNT -- COMMAND.. runs the command on each script, compares every byte
+peer draw                             the tree that a bench script on the standard input leaves, as text
 peer history FIRST COUNT              demand 3 at every moment of random histories
 peer damaged FIRST COUNT              damaged tables: no panic, refused calls change nothing
 peer fault NAME FIRST COUNT           the first history that a fault brings to harm, made small
@@ -43,14 +43,14 @@ fn main() -> ExitCode {
 
 fn called(words: &[&str]) -> Option<ExitCode> {
     Some(match *words {
-        ["bench"] => of_input(|input| Ok(bench::run(input))),
+        ["bench"] => run_bench(),
         ["runs"] => runs::check(),
-        ["draw"] => of_input(|input| draw::draw(input).map(String::into_bytes)),
         ["script", seed] => print(&script::script(number(seed)?)),
         ["expect", first, count, folder] => compare::expect(number(first)?, number(count)?, folder),
         ["compare", first, count, "--", ref command @ ..] if !command.is_empty() => {
             compare::compare(number(first)?, number(count)?, command)
         }
+        ["draw"] => print(draw::of_input().as_bytes()),
         ["history", first, count] => history::check(number(first)?, number(count)?),
         ["damaged", first, count] => damaged::check(number(first)?, number(count)?),
         ["fault", name, first, count] => history::show(Fault::named(name)?, number(first)?, number(count)?),
@@ -70,19 +70,12 @@ fn print(bytes: &[u8]) -> ExitCode {
     }
 }
 
-/// Prints what is said of the standard input, or why nothing is.
-fn of_input(say: impl Fn(&[u8]) -> Result<Vec<u8>, &'static str>) -> ExitCode {
+fn run_bench() -> ExitCode {
     let mut input = Vec::new();
     if std::io::stdin().read_to_end(&mut input).is_err() {
         return ExitCode::FAILURE;
     }
-    match say(&input) {
-        Ok(said) => print(&said),
-        Err(why) => {
-            eprintln!("peer: {why}");
-            ExitCode::FAILURE
-        }
-    }
+    print(&bench::run(&input))
 }
 
 fn all_faults(first: u64, count: u64) -> ExitCode {
