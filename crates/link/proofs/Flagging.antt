@@ -8,7 +8,7 @@ use native.Mathlib.Omega.{arith}
 use native.Mathlib.Decide.{ℕ-discrete, decLe}
 use lib.Dec.{ltb, eqb}
 use borrow.Author.Tests.{eqb-true, eqb-false, eq-eqb, ne-eqb}
-use Rattle.tables.specs.Choice.{pick, both}
+use Rattle.tables.specs.Choice.{pick, both, either}
 use Rattle.tables.specs.Layout.{tagWord, pendingWord, recordWord, processField, operationField, keyField}
 use Rattle.tables.specs.Pending.{wordOf, pendingOf}
 use Rattle.tables.specs.Node.{kinOf, isNode}
@@ -23,7 +23,6 @@ use Rattle.process.specs.declared.Process.{Process}
 use Rattle.process.specs.declared.Stepped.{Stepped}
 use Rattle.process.specs.Process.{withOwn, toSix, toNine}
 use Rattle.process.specs.Answer.{answer, goingOn, endingOf}
-use Rattle.damage.specs.Fields.{either}
 use Rattle.draws.specs.declared.Job.{Job}
 use Rattle.draws.specs.Draw.{newNode, newRecord, roomFor, sprouts, neededNodes, recordImage, replaceDrawn, pruneDrawn}
 use Rattle.draws.proofs.After.{Room, room-is}

@@ -10,7 +10,7 @@ use native.Mathlib.Numerals.{add-one}
 use lib.Dec.{ltb, eqb}
 use lib.ListN.{set}
 use borrow.Author.Tests.{eqb-true, eqb-false, eq-eqb, ne-eqb, ltb-true, ltb-false, lt-ltb, not-true}
-use Rattle.tables.specs.Choice.{pick, both}
+use Rattle.tables.specs.Choice.{pick, both, either}
 use Rattle.tables.specs.Layout.{depthOf, nodeAt, stackAt, nodeWord, tagWord, childWord, pendingWord, recordWord, stackWord, pendingPlace, lField, pField, expectedField}
 use Rattle.tables.specs.Place.{inNode, inStack, Inside}
 use Rattle.tables.specs.Pending.{pendingOf}
@@ -21,7 +21,6 @@ use Rattle.process.specs.declared.Process.{Process}
 use Rattle.process.specs.declared.Stepped.{Stepped}
 use Rattle.process.specs.Process.{withIndex, withOther, withDepth, toEleven, toTwelve}
 use Rattle.process.specs.Answer.{goingOn}
-use Rattle.damage.specs.Fields.{either}
 use Rattle.points.specs.Help.{helping}
 use Rattle.points.specs.Rows.{seenGood, childGood, kinAt, nonEmpty, touch9, row9, touch11, notes, otherWith, notedGood, noted, row11}
 use Rattle.history.specs.View.{In}

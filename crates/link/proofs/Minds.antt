@@ -9,7 +9,7 @@ use native.Mathlib.Decide.{ℕ-discrete}
 use lib.Count.{ones}
 use lib.Dec.{ltb, leb, eqb}
 use borrow.Author.Tests.{lt-ltb, le-ltb, le-leb, lt-leb, eq-eqb, ne-eqb, eqb-true, leb-true, ltb-true, ltb-false, eqb-false}
-use Rattle.tables.specs.Choice.{pick, both, within}
+use Rattle.tables.specs.Choice.{pick, both, either, within}
 use Rattle.tables.specs.Layout.{depthOf, tagWord, recordWord, processField}
 use Rattle.tables.specs.Pending.{wordOf, pendingOf, pendingGood}
 use Rattle.tables.specs.Node.{kinOf, isNode, isInternal, isLeaf}
@@ -18,7 +18,7 @@ use Rattle.tables.specs.declared.pending.Pending.{Pending}
 use Rattle.tables.specs.declared.pending.Pending.the-variants.{Clean, Replace, Prune, Mark}
 use Rattle.tables.proofs.Picks.{both-1, both-2, within-low, within-high}
 use Rattle.process.specs.declared.Process.{Process}
-use Rattle.damage.specs.Fields.{either, given, zeroOr, pointOfInsert, pointGood, usesIndex, numbersGood, nodesGood, recordsGood, usesGood, processGood}
+use Rattle.damage.specs.Fields.{given, zeroOr, pointOfInsert, pointGood, usesIndex, numbersGood, nodesGood, recordsGood, usesGood, processGood}
 use Rattle.damage.specs.Helped.{kindAt, recordGood, helpedGood}
 use Rattle.history.specs.View.{View, In}
 use Rattle.history.specs.Effects.{Grown}

@@ -6,7 +6,7 @@ use mathlib.Core.List.{List}
 use lib.Dec.{ltb, eqb}
 use lib.ListN.{set}
 use borrow.Author.Tests.{lt-ltb, le-ltb, eq-eqb, ne-eqb}
-use Rattle.tables.specs.Choice.{pick, both}
+use Rattle.tables.specs.Choice.{pick, both, either}
 use Rattle.tables.specs.Refusal.{refusal}
 use Rattle.tables.specs.Layout.{depthOf, nodeAt, stackAt, childWord, pendingWord, childPlace, pendingPlace}
 use Rattle.tables.specs.Pending.{pendingOf, pendingGood}
@@ -20,7 +20,6 @@ use Rattle.process.specs.Process.{withPoint, withIndex, withOther, withDepth, t
 use Rattle.process.specs.Answer.{goingOn, refusedAs}
 use Rattle.process.specs.declared.Process.{Process}
 use Rattle.process.specs.declared.Stepped.{Stepped}
-use Rattle.damage.specs.Fields.{either}
 use Rattle.points.specs.Touch.{out, rowDone}
 use Rattle.points.specs.Help.{helpedP, helpedL, helpedThird, helpedExpected, topOf, helpEnded, helping, topGood}
 use Rattle.points.specs.Rows.{nonEmpty, lookedFor, lookRow, hangRow, unflagRow, popGood, underTop, notesKin, otherWith, noted, row9, row10, row11}
