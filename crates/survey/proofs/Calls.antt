@@ -9,7 +9,7 @@ use native.Mathlib.Decide.{ℕ-discrete, decLt}
 use lib.Dec.{ltb, eqb}
 use lib.ListN.{length}
 use borrow.Author.Tests.{lt-ltb, le-ltb, eq-eqb, ne-eqb}
-use Rattle.tables.specs.Choice.{pick, Reason, reason, NoneHolds, none, nor, First}
+use Rattle.tables.specs.Choice.{pick, Reason, reason, NoneHolds, none, nor, First, either}
 use Rattle.tables.specs.Numbers.{infinity}
 use Rattle.tables.specs.Keys.{holds}
 use Rattle.tables.specs.Layout.{blockWords}
@@ -20,7 +20,7 @@ use Rattle.tables.specs.declared.numbers.Refusal.{Refusal}
 use Rattle.tables.specs.declared.numbers.Refusal.the-variants.{ListTooShort, InfinityGiven, LowAboveHigh}
 use Rattle.tables.proofs.OneToOne.{none-accepts, first-refuses}
 use Rattle.walk.specs.Walk.{walked}
-use Rattle.walk.specs.Calls.{keysMet, listRest, listReasons, ListOut, listOut, listOf, partOf, either, anyWithin, rangeRest, rangeReasons, rangeOf}
+use Rattle.walk.specs.Calls.{keysMet, listRest, listReasons, ListOut, listOut, listOf, partOf, anyWithin, rangeRest, rangeReasons, rangeOf}
 use Rattle.walk.specs.declared.Listed.the-variants.{Count, Refused as ListRefused}
 use Rattle.walk.specs.declared.Cleared.the-variants.{No, Yes, Refused as RangeRefused}
 use Rattle.walk.proofs.Answers.{list-first-says, list-counts, list-count, range-first-says, Clear, Inside, any-inside, none-clear, clear-yes, range-inside-no, yes-clear, no-inside}
