@@ -5,8 +5,10 @@ use mathlib.Core.Logic.{_≢_, _⊎_, inl, inr, _↔_}
 use mathlib.Core.List.{List, List·Memᴰ}
 use native.Mathlib.Omega.{arith}
 use native.Mathlib.Decide.{decLe, decLt}
+use lib.ListN.{getD}
 use Rattle.tables.specs.Numbers.{infinity}
 use Rattle.tables.specs.Refusal.{numberOf}
+use Rattle.tables.specs.Layout.{blockWords}
 use Rattle.tables.specs.declared.numbers.Refusal.{Refusal}
 use Rattle.tables.specs.declared.numbers.Refusal.the-variants.{NoSuchProcess, Idle}
 use Rattle.tables.specs.declared.header.Header.{Header}
@@ -14,6 +16,8 @@ use Rattle.process.specs.declared.Process.{Process}
 use Rattle.process.specs.declared.Answer.{Answer}
 use Rattle.process.specs.declared.Answer.the-variants.{No, Yes, Full}
 use Rattle.process.specs.declared.StepAnswer.the-variants as steps
+use Rattle.process.specs.Process.{startedAs}
+use Rattle.points.specs.Rows.{rowOf}
 use Rattle.index.specs.Calls.{StepOut}
 use Rattle.walk.specs.Calls.{keysMet, rangeOf}
 use Rattle.walk.specs.declared.Cleared.the-variants as cleared
@@ -23,13 +27,16 @@ use Rattle.history.specs.Change.{Change, Drawn, put-leaf, out-leaf, sprout, dra
 use Rattle.history.specs.Effects.{SameSet, SetMoves, adds, removes, Moved, Grown, swaps}
 use Rattle.history.specs.Effects as effects
 use Rattle.history.specs.Run.{Step, changes, rests, step-swaps, SwapAt, Moment}
-use Rattle.link.specs.Events.{Event, State, taken, stepIn, eventAt, stateAt, blockAt, headerAt, sinceAt}
+use Rattle.link.specs.Events.{Event, start, step, State, taken, stepIn, eventAt, stateAt, blockAt, headerAt, sinceAt}
 use Rattle.link.specs.Swaps.{ChildSwap}
 use Rattle.link.specs.Operations.{Started, BusyWith, Draws, OperationOf, Answered}
 use Rattle.link.specs.Sets.{tablesAt, viewAt, InSet}
 use Rattle.link.proofs.Moments.{Why, no-room, found, missing, there, not-there, did}
 use Rattle.link.proofs.Clauses as link
 use Rattle.link.proofs.Clauses.{Reached, k-at, step-at}
+use Rattle.link.proofs.Beyond.{step-behind}
+use Rattle.link.proofs.Reached.{state-next, taken-other, state-is}
+use Rattle.link.proofs.Outcomes.{Outcome, nothing as still, begun, moved, outcome}
 use Rattle.link.proofs.Story.{Story, story}
 use Rattle.link.proofs.Answers as told-of
 use Rattle.link.proofs.Answers.{Told, told, Drawn as DrawnSince, Behind}
@@ -306,6 +313,26 @@ module _ {s : State} {es : List Event} (reached : Reached s es) where
       go (inl e) = clear e (survey.range-yes reached m low high p q l .0 e)
       go (inr e) = met e (survey.range-no reached m low high p q l .0 e)
 
+  words-beyond : (m i : ℕ) → blockWords (headerAt s es m) ≤ i → getD (blockAt s es (suc m)) i 0 ≡ getD (blockAt s es m) i 0
+  words-beyond m i l = by (eventAt es m) refl
+    where
+      by : (e : Event) → eventAt es m ≡ e → getD (blockAt s es (suc m)) i 0 ≡ getD (blockAt s es m) i 0
+      by (start n o x) z = ap (λ (t : State). getD (t .block) i 0) (state-next s es m (start n o x) z)
+      by (step n) z = ap (λ (t : State). getD (t .block) i 0) (state-next s es m (step n) z) ∙ step-behind (blockAt s es m) (W m .row) n i l
+
+  records-beyond : (m n : ℕ) → headerAt s es m .processes < n → taken (W (suc m)) n ≡ taken (W m) n
+  records-beyond m n l = go (outcome (link.good reached m))
+    where
+      apart : (p : ℕ) → In (headerAt s es m .processes) p → n ≢ p
+      apart p u e = omega (arith, u .high)
+
+      go : Outcome s es m → taken (W (suc m)) n ≡ taken (W m) n
+      go (still e f g) = ap (λ (t : State). taken t n) e
+      go (begun p o x u z v w f f′ g) = taken-other (link.good reached m) p (blockAt s es m) (startedAs o x) w u n (omega arith) (apart p u)
+      go (moved p u z y w f g g′) =
+          taken-other (link.good reached m) p (rowOf (blockAt s es m) (headerAt s es m) p (taken (W m) p) .block)
+          (rowOf (blockAt s es m) (headerAt s es m) p (taken (W m) p) .stepped .process) (state-is (link.good reached m) p u z y w) u n (omega arith) (apart p u)
+
   pub claimed : Claim s es
   claimed = record {
     start-refused = link.start-refused reached;
@@ -330,4 +357,6 @@ module _ {s : State} {es : List Event} (reached : Reached s es) where
     counts = λ m n a count x. told-of.steps-all reached x;
     lasting = link.grows reached;
     draws = draws;
+    words-beyond = words-beyond;
+    records-beyond = records-beyond;
   }

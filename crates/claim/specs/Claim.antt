@@ -5,9 +5,10 @@ use Prim.Native.Nat.{ℕ, suc, _+_, _≤_, _<_}
 use mathlib.Core.Path.{_≡_}
 use mathlib.Core.Logic.{_≢_, _⊎_, _↔_}
 use mathlib.Core.List.{List, List·Memᴰ}
-use lib.ListN.{length}
+use lib.ListN.{length, getD}
 use Rattle.tables.specs.Numbers.{infinity}
 use Rattle.tables.specs.Refusal.{numberOf}
+use Rattle.tables.specs.Layout.{blockWords}
 use Rattle.tables.specs.Fresh.{overFront}
 use Rattle.tables.specs.declared.numbers.Refusal.{Refusal}
 use Rattle.tables.specs.declared.numbers.Refusal.the-variants.{ListTooShort}
@@ -25,7 +26,7 @@ use Rattle.history.specs.View.{In, route, keys, Reach, Below}
 use Rattle.history.specs.Shared.{Desc, Shared}
 use Rattle.history.specs.Effects.{Moved, Grown}
 use Rattle.history.specs.Run.{Moment}
-use Rattle.link.specs.Events.{Event, State, startIn, stepIn, stateAt, blockAt, headerAt, stepsAt, capped}
+use Rattle.link.specs.Events.{Event, State, taken, startIn, stepIn, stateAt, blockAt, headerAt, stepsAt, capped}
 use Rattle.link.specs.Swaps.{ChildSwap}
 use Rattle.link.specs.Operations.{Started, BusyWith, OperationOf, Answered}
 use Rattle.link.specs.Sets.{tablesAt, viewAt, InSet}
@@ -115,6 +116,9 @@ pub record Claim (s : State) (es : List Event) : Type 0 where
   -- 7. tags and keys of nodes in use and all words of records in use never change, used counts never fall; each draw takes the next free numbers
   pub lasting : (m m′ : ℕ) → m ≤ m′ → Grown (tablesAt s es m) (tablesAt s es m′)
   pub draws : (m : ℕ) → Drawing (headerAt s es m .k) (tablesAt s es m) (tablesAt s es (suc m))
+  -- "Words and records beyond those needed are untouched."
+  pub words-beyond : (m i : ℕ) → blockWords (headerAt s es m) ≤ i → getD (blockAt s es (suc m)) i 0 ≡ getD (blockAt s es m) i 0
+  pub records-beyond : (m n : ℕ) → headerAt s es m .processes < n → taken (stateAt s es (suc m)) n ≡ taken (stateAt s es m) n
 
 -- what making leaves in the lent block and row
 abbrev pub made : List ℕ → List Process → ℕ → ℕ → ℕ → ℕ → State
