@@ -1,5 +1,5 @@
 -- The claim holds of every reached state: clause by clause from what link proves.
-use Prim.Native.Nat.{ℕ, zero, suc, _+_, _-_, _≤_, _<_}
+use Prim.Native.Nat.{ℕ, suc, _+_, _-_, _≤_, _<_}
 use mathlib.Core.Path.{_≡_, refl, sym, ap, _∙_, subst}
 use mathlib.Core.Logic.{_≢_, _⊎_, inl, inr, _↔_}
 use mathlib.Core.List.{List, List·Memᴰ}
@@ -11,25 +11,21 @@ use Rattle.tables.specs.Refusal.{numberOf}
 use Rattle.tables.specs.Layout.{blockWords}
 use Rattle.tables.specs.declared.numbers.Refusal.{Refusal}
 use Rattle.tables.specs.declared.numbers.Refusal.the-variants.{NoSuchProcess, Idle}
-use Rattle.tables.specs.declared.header.Header.{Header}
-use Rattle.process.specs.declared.Process.{Process}
 use Rattle.process.specs.declared.Answer.{Answer}
 use Rattle.process.specs.declared.Answer.the-variants.{No, Yes, Full}
 use Rattle.process.specs.declared.StepAnswer.the-variants as steps
 use Rattle.process.specs.Process.{startedAs}
 use Rattle.points.specs.Rows.{rowOf}
-use Rattle.index.specs.Calls.{StepOut}
 use Rattle.walk.specs.Calls.{keysMet, rangeOf}
 use Rattle.walk.specs.declared.Cleared.the-variants as cleared
 use Rattle.history.specs.View.{In, route, keys, Reach, Below, Holds}
 use Rattle.history.specs.Shared.{Desc, Shared}
-use Rattle.history.specs.Change.{Change, Drawn, put-leaf, out-leaf, sprout, draw-replace, draw-prune, swap-replace, unflag-replace, mark, swap-prune, unflag-prune}
-use Rattle.history.specs.Effects.{SameSet, SetMoves, adds, removes, Moved, Grown, swaps}
-use Rattle.history.specs.Effects as effects
-use Rattle.history.specs.Run.{Step, changes, rests, step-swaps, SwapAt, Moment}
+use Rattle.history.specs.Change.{Drawn, put-leaf, out-leaf, sprout, draw-replace, draw-prune, swap-replace, unflag-replace, mark, swap-prune, unflag-prune}
+use Rattle.history.specs.Effects.{SameSet, SetMoves, adds, removes, Moved, swaps}
+use Rattle.history.specs.Run.{Step, changes, rests, step-swaps, Moment}
 use Rattle.link.specs.Events.{Event, start, step, State, taken, stepIn, eventAt, stateAt, blockAt, headerAt, sinceAt}
 use Rattle.link.specs.Swaps.{ChildSwap}
-use Rattle.link.specs.Operations.{Started, BusyWith, Draws, OperationOf, Answered}
+use Rattle.link.specs.Operations.{Started, BusyWith, OperationOf, Answered}
 use Rattle.link.specs.Sets.{tablesAt, viewAt, InSet}
 use Rattle.link.proofs.Moments.{Why, no-room, found, missing, there, not-there, did}
 use Rattle.link.proofs.Clauses as link
@@ -39,11 +35,11 @@ use Rattle.link.proofs.Reached.{state-next, taken-other, state-is}
 use Rattle.link.proofs.Outcomes.{Outcome, nothing as still, begun, moved, outcome}
 use Rattle.link.proofs.Story.{Story, story}
 use Rattle.link.proofs.Answers as told-of
-use Rattle.link.proofs.Answers.{Told, told, Drawn as DrawnSince, Behind}
+use Rattle.link.proofs.Answers.{told, Drawn as DrawnSince}
 use Rattle.link.proofs.Origins.{Comes, comes}
 use Rattle.survey.proofs.Clauses as survey
-use Rattle.claim.proofs.Operations.{start-same, since-start, since-between, busy-story, busy-is, one-operation, its-operation, draws-it, still-busy, drawn-late, ended, started-place}
-use Rattle.claim.specs.Claim.{Claim, Listing, Range, clear, met, Added, Removed, Changes, put-in, taken-out, SwapOf, Drawing, nothing, a-leaf, a-sprout, a-prune}
+use Rattle.claim.proofs.Operations.{start-same, since-start, since-between, busy-is, one-operation, its-operation, draws-it, still-busy, drawn-late, ended, started-place}
+use Rattle.claim.specs.Claim.{Claim, Listing, Range, clear, met, Changes, put-in, taken-out, SwapOf, Drawing, nothing, a-leaf, a-sprout, a-prune}
 
 module _ {s : State} {es : List Event} (reached : Reached s es) where
   abbrev W : ℕ → State

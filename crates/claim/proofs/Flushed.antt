@@ -1,30 +1,27 @@
 -- A clear range and an empty listing, in the driver's words, from the claim alone.
 use Prim.Native.Nat.{ℕ, zero, suc, _+_, _-_, _≤_, _<_}
 use mathlib.Core.Path.{_≡_, refl, sym, ap, _∙_, subst}
-use mathlib.Core.Logic.{_≢_, _⊎_, inl, inr, _↔_}
+use mathlib.Core.Logic.{_⊎_, inl, inr}
 use mathlib.Core.List.{List, [], _∷_, List·Memᴰ, List·Memᴰ·not-nil}
 use native.Mathlib.Omega.{arith}
 use native.Mathlib.Decide.{ℕ-discrete, decLe}
 use lib.ListN.{length}
 use Rattle.tables.specs.Numbers.{infinity}
 use Rattle.tables.specs.Layout.{childWord}
-use Rattle.tables.specs.Fresh.{overFront}
 use Rattle.tables.specs.declared.header.Header.{Header}
 use Rattle.tables.specs.declared.numbers.Refusal.the-variants.{ListTooShort}
 use Rattle.process.specs.declared.Process.{Process}
 use Rattle.points.specs.Help.{helpedL, helpedP, helpedThird}
 use Rattle.walk.specs.Calls.{ListOut, listOf, rangeOf}
-use Rattle.walk.specs.declared.Listed.{Listed}
 use Rattle.walk.specs.declared.Listed.the-variants.{Count, Refused}
 use Rattle.walk.specs.declared.Cleared.the-variants.{No, Yes}
-use Rattle.history.specs.View.{In}
 use Rattle.link.specs.Events.{Event, start, step, State, taken, eventAt, stateAt, blockAt, headerAt}
 use Rattle.link.specs.Swaps.{Swapping, seven, thirteen, ChildSwap}
 use Rattle.link.specs.Operations.{Started, OperationOf}
 use Rattle.link.specs.Sets.{InSet}
 use Rattle.claim.proofs.Operations.{start-same}
-use Rattle.claim.specs.Claim.{Claim, Added, Removed, Changes, put-in, taken-out, SwapOf, Listing, Range, clear, met}
-use Rattle.claim.specs.Flushed.{PutIn, TakenOut, Flushed}
+use Rattle.claim.specs.Claim.{Claim, Changes, put-in, taken-out, SwapOf, Listing, Range, clear, met}
+use Rattle.claim.specs.Flushed.{TakenOut, Flushed}
 
 -- whether an event is a child swap can be told
 swapping? : (b : List ℕ) (h : Header) (q : Process) → Dec (Swapping b h q)

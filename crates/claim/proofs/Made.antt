@@ -1,7 +1,7 @@
 -- Demand 3: the claim holds of every list of starts and steps after an accepted making.
-use Prim.Native.Nat.{ℕ, _≤_}
-use mathlib.Core.Path.{_≡_, refl, sym, ap, _∙_, subst}
-use mathlib.Core.Bool.{Bool, true, false, not}
+use Prim.Native.Nat.{ℕ}
+use mathlib.Core.Path.{_≡_, refl, sym, _∙_}
+use mathlib.Core.Bool.{Bool, true, false}
 use mathlib.Core.List.{List}
 use native.Mathlib.Omega.{arith}
 use lib.Dec.{ltb}
@@ -12,10 +12,9 @@ use Rattle.tables.specs.Numbers.{kStored, numbersGood}
 use Rattle.tables.specs.Refusal.{refusal}
 use Rattle.tables.specs.Layout.{blockWords}
 use Rattle.tables.specs.Fresh.{freshHeader}
-use Rattle.tables.specs.declared.fresh.Made.{Made}
 use Rattle.tables.specs.declared.fresh.Made.the-variants.{Done, Refused}
 use Rattle.process.specs.declared.Process.{Process}
-use Rattle.index.specs.Calls.{MakeOut, makeOut, makeCall}
+use Rattle.index.specs.Calls.{makeCall}
 use Rattle.link.specs.Events.{Event, AllProper, State, freshState}
 use Rattle.link.proofs.Origins.{reached-fresh}
 use Rattle.claim.proofs.Claimed.{claimed}

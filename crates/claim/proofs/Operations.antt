@@ -1,15 +1,14 @@
 -- Operations over a list of events: the start that a busy process goes back to, the draws of its records, and that nothing of it comes after its answer.
-use Prim.Native.Nat.{ℕ, zero, suc, _+_, _*_, _-_, _≤_, _<_}
+use Prim.Native.Nat.{ℕ, zero, suc, _+_, _-_, _≤_, _<_}
 use mathlib.Core.Path.{_≡_, refl, sym, ap, _∙_, subst}
-use mathlib.Core.Logic.{_≢_, _⊎_, inl, inr}
+use mathlib.Core.Logic.{_≢_}
 use mathlib.Core.Bool.{Bool, true, false}
 use mathlib.Core.List.{List}
 use native.Mathlib.Omega.{arith}
-use native.Mathlib.Decide.{ℕ-discrete, decLe, decLt}
+use native.Mathlib.Decide.{ℕ-discrete, decLt}
 use lib.Dec.{eqb}
 use borrow.Author.Tests.{eqb-true, eq-eqb}
 use Rattle.tables.specs.Choice.{pick, both}
-use Rattle.tables.specs.declared.header.Header.{Header}
 use Rattle.process.specs.declared.Process.{Process}
 use Rattle.process.specs.declared.Answer.{Answer}
 use Rattle.process.specs.declared.StepAnswer.the-variants.{GoesOn, Ended}
@@ -19,25 +18,23 @@ use Rattle.process.specs.Answer.{goingOn}
 use Rattle.points.specs.Rows.{rowOf}
 use Rattle.points.specs.declared.start.StartAnswer.{StartAnswer}
 use Rattle.points.specs.declared.start.StartAnswer.the-variants.{Accepted, Refused}
-use Rattle.index.specs.Calls.{StartOut, StepOut}
+use Rattle.index.specs.Calls.{StepOut}
 use Rattle.history.specs.View.{In}
 use Rattle.history.specs.Shared.{Desc, Shared, Stands, stands-replace, stands-prune}
-use Rattle.history.specs.Change.{Change, draw-replace, draw-prune, swap-replace, unflag-replace, mark, swap-prune, unflag-prune}
-use Rattle.history.specs.Effects.{Grown}
+use Rattle.history.specs.Change.{draw-replace, draw-prune, swap-replace, unflag-replace, mark, swap-prune, unflag-prune}
 use Rattle.history.specs.Run.{Step, changes, rests}
 use Rattle.link.specs.Events.{Event, start, step, State, taken, startIn, stepIn, eventAt, stateAt, blockAt, headerAt, isAccepted, starts, isAnswered, steppedBy, sinceAt}
-use Rattle.link.specs.Swaps.{ChildSwap}
 use Rattle.link.specs.Operations.{Started, BusyWith, Draws, OperationOf, Answered}
 use Rattle.link.proofs.Checks.{both-is}
-use Rattle.link.proofs.Moments.{tables, Busy, Follows, already, afterwards, answers}
+use Rattle.link.proofs.Moments.{tables, Follows, already, afterwards, answers}
 use Rattle.link.proofs.Reached.{taken-own, taken-other, state-is}
 use Rattle.link.proofs.Stepping.{turn}
 use Rattle.link.proofs.Outcomes.{Outcome, nothing, begun, moved, outcome}
 use Rattle.link.proofs.Clauses.{Reached, good, step-at, grows, processes-at}
 use Rattle.link.proofs.Story.{Story, story}
-use Rattle.link.proofs.Answers.{Told, told, Drawn}
-use Rattle.link.proofs.Origins.{Comes, comes}
-use Rattle.link.proofs.Owners.{Owned, owned}
+use Rattle.link.proofs.Answers.{Drawn}
+use Rattle.link.proofs.Origins.{comes}
+use Rattle.link.proofs.Owners.{owned}
 
 both-left : (t u : Bool) → both t u ≡ true → t ≡ true
 unfolding both

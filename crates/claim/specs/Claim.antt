@@ -12,18 +12,17 @@ use Rattle.tables.specs.Layout.{blockWords}
 use Rattle.tables.specs.Fresh.{overFront}
 use Rattle.tables.specs.declared.numbers.Refusal.{Refusal}
 use Rattle.tables.specs.declared.numbers.Refusal.the-variants.{ListTooShort}
-use Rattle.tables.specs.declared.header.Header.{Header}
 use Rattle.process.specs.declared.Process.{Process}
 use Rattle.process.specs.declared.Answer.{Answer}
 use Rattle.process.specs.declared.Answer.the-variants.{No, Yes, Full}
 use Rattle.process.specs.declared.StepAnswer.the-variants as steps
 use Rattle.points.specs.declared.start.StartAnswer.the-variants as starts
-use Rattle.index.specs.Calls.{MakeOut, makeCall, StartOut, StepOut}
-use Rattle.walk.specs.Calls.{ListOut, listOut, listOf, partOf, rangeOf}
+use Rattle.index.specs.Calls.{makeCall}
+use Rattle.walk.specs.Calls.{listOut, listOf, partOf, rangeOf}
 use Rattle.walk.specs.declared.Listed.the-variants as listed
 use Rattle.walk.specs.declared.Cleared.the-variants as cleared
 use Rattle.history.specs.View.{In, route, keys, Reach, Below}
-use Rattle.history.specs.Shared.{Desc, Shared}
+use Rattle.history.specs.Shared.{Shared}
 use Rattle.history.specs.Effects.{Moved, Grown}
 use Rattle.history.specs.Run.{Moment}
 use Rattle.link.specs.Events.{Event, State, taken, startIn, stepIn, stateAt, blockAt, headerAt, stepsAt, capped}

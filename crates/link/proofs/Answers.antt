@@ -1,41 +1,37 @@
 -- What an answer says: yes has its child swap between start and answer, no and full have none ever, finds and noes agree with the set, steps are counted.
-use Prim.Native.Nat.{ℕ, zero, suc, _+_, _-_, _≤_, _<_}
+use Prim.Native.Nat.{ℕ, suc, _+_, _-_, _≤_, _<_}
 use mathlib.Core.Path.{_≡_, refl, sym, ap, _∙_, subst}
 use mathlib.Core.Logic.{_≢_, _⊎_, inl, inr}
-use mathlib.Core.Bool.{Bool, true, false}
+use mathlib.Core.Bool.{true, false}
 use mathlib.Core.List.{List}
 use native.Mathlib.Omega.{arith}
 use native.Mathlib.Decide.{decLt}
 use borrow.Author.Tests.{eq-eqb}
 use Rattle.tables.specs.Choice.{pick}
-use Rattle.tables.specs.declared.header.Header.{Header}
 use Rattle.process.specs.declared.Process.{Process}
 use Rattle.process.specs.declared.Answer.{Answer}
 use Rattle.process.specs.declared.Answer.the-variants.{No, Yes, Full}
-use Rattle.process.specs.declared.StepAnswer.{StepAnswer}
 use Rattle.process.specs.declared.StepAnswer.the-variants.{GoesOn, Ended, Refused}
 use Rattle.process.specs.declared.Stepped.{Stepped}
-use Rattle.process.specs.Answer.{stepsUp, goingOn, endingOf}
+use Rattle.process.specs.Answer.{stepsUp}
 use Rattle.tables.specs.Refusal.{refusal}
-use Rattle.points.specs.Touch.{Out}
 use Rattle.points.specs.Rows.{rowOf}
 use Rattle.index.specs.Calls.{StepOut}
 use Rattle.history.specs.View.{In, Holds}
 use Rattle.history.specs.Run.{Moment}
-use Rattle.history.specs.Shared.{Desc, Shared, Done, Failed}
-use Rattle.history.proofs.Runs.{failed-at}
+use Rattle.history.specs.Shared.{Shared, Failed}
 use Rattle.history.proofs.Quiet.{not-both}
 use Rattle.history.proofs.Swapping.{SwapBetween, swapped-done, failed-never, swap-between}
-use Rattle.link.specs.Events.{Event, start, step, State, taken, stepIn, eventAt, stateAt, blockAt, headerAt, starts, isAnswered, steppedBy, stepsAt, capped, sinceAt}
+use Rattle.link.specs.Events.{Event, State, taken, stepIn, eventAt, stateAt, blockAt, headerAt, starts, isAnswered, steppedBy, stepsAt, capped, sinceAt}
 use Rattle.link.specs.Swaps.{ChildSwap}
 use Rattle.link.specs.Operations.{Answered}
 use Rattle.link.proofs.Checks.{both-is}
-use Rattle.link.proofs.Moments.{tables, Busy, Why, found, missing, there, not-there, no-room, did, Follows}
+use Rattle.link.proofs.Moments.{tables, Busy, Why, found, missing, there, not-there, no-room, did}
 use Rattle.link.proofs.Stepping.{turn, step-sound}
 use Rattle.link.proofs.Calls as calls
 use Rattle.link.proofs.Calls.{stepRefusedIn}
-use Rattle.link.proofs.Reached.{Good, Doing, idles, works}
-use Rattle.link.proofs.Clauses.{Reached, good, k-at, hk, run, sound, sound₀, grows, stepped-says, swap-at, swap-event, swaps-once}
+use Rattle.link.proofs.Reached.{Doing, idles, works}
+use Rattle.link.proofs.Clauses.{Reached, good, k-at, hk, run, sound, sound₀, stepped-says, swap-at, swap-event, swaps-once}
 use Rattle.link.proofs.Story.{Story, story, capped-up, steps-next}
 
 -- what is known then

@@ -1,6 +1,6 @@
 -- "Words and records beyond those needed are untouched": no step changes a word behind the last that the header needs.
-use Prim.Native.Nat.{ℕ, zero, suc, _+_, _*_, _-_, _≤_, _<_}
-use mathlib.Core.Path.{_≡_, refl, sym, ap, _∙_}
+use Prim.Native.Nat.{ℕ, suc, _+_, _*_, _-_, _≤_, _<_}
+use mathlib.Core.Path.{_≡_, refl, ap, _∙_}
 use mathlib.Core.Bool.{Bool, true, false}
 use mathlib.Core.List.{List, [], _∷_}
 use native.Mathlib.Omega.{arith}
@@ -25,7 +25,7 @@ use Rattle.process.specs.declared.StepAnswer.the-variants.{Refused}
 use Rattle.draws.specs.declared.Job.{Job}
 use Rattle.draws.specs.Draw.{newNode, newRecord, sprouts, neededNodes, newKeys, newCount, leafDrawn, leavesFrom, sproutLeaves, sproutDrawn, nodesDrawn, recordImage, recordDrawn, committed, replaceDrawn, pruneDrawn}
 use Rattle.draws.proofs.After.{Room, room-is, stemImage}
-use Rattle.points.specs.Touch.{Touch, reads, swaps, touchedNode, touchedWord, touched, Row, Out}
+use Rattle.points.specs.Touch.{Touch, reads, swaps, touched}
 use Rattle.points.specs.Rows.{jobOf, rowOf}
 use Rattle.points.specs.Step.{stepReasons}
 use Rattle.points.proofs.Accepted.{Accepted, Known, accepted-known}

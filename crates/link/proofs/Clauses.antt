@@ -1,25 +1,22 @@
 -- Over all lists of events from a state at rest: never damaged, search order, and what changes child words and the set.
-use Prim.Native.Nat.{ℕ, zero, suc, _+_, _*_, _-_, _≤_, _<_}
+use Prim.Native.Nat.{ℕ, zero, suc, _+_, _-_, _≤_}
 use mathlib.Core.Path.{_≡_, refl, sym, ap, _∙_, subst}
 use mathlib.Core.Logic.{_≢_, _⊎_, inl, inr}
-use mathlib.Core.Bool.{Bool, true, false}
 use mathlib.Core.List.{List, List·Memᴰ}
 use native.Mathlib.Omega.{arith}
-use native.Mathlib.Decide.{ℕ-discrete}
 use Rattle.tables.specs.Refusal.{numberOf, refusal}
 use Rattle.tables.specs.declared.header.Header.{Header}
 use Rattle.tables.specs.declared.numbers.Refusal.{Refusal}
 use Rattle.tables.specs.declared.numbers.Refusal.the-variants.{NoSuchProcess, Idle}
 use Rattle.process.specs.declared.Process.{Process}
 use Rattle.process.specs.declared.Answer.{Answer}
-use Rattle.process.specs.declared.StepAnswer.{StepAnswer}
 use Rattle.process.specs.declared.StepAnswer.the-variants.{GoesOn, Ended, Refused}
 use Rattle.process.specs.declared.Stepped.{Stepped}
-use Rattle.process.specs.Answer.{stepsUp, goingOn, endingOf}
+use Rattle.process.specs.Answer.{stepsUp}
 use Rattle.points.specs.Rows.{rowOf}
 use Rattle.points.specs.declared.start.StartAnswer.the-variants as start-answers
 use Rattle.index.specs.Calls.{StartOut, StepOut}
-use Rattle.history.specs.View.{In, route, keys, Reach, Below, Holds}
+use Rattle.history.specs.View.{In, route, keys, Reach, Below}
 use Rattle.history.specs.Shared.{Shared}
 use Rattle.history.specs.Effects.{SameSet, SetMoves, Grown, Moved}
 use Rattle.history.specs.Run.{Step, Run, SwapAt, step-swaps}
@@ -30,13 +27,12 @@ use Rattle.history.proofs.SetLaws.{step-set-same, step-set-swap}
 use Rattle.history.proofs.Walking.{Listing, listing}
 use Rattle.history.proofs.Runs.{sound-at, grown-at}
 use Rattle.history.proofs.Swapping.{SwapBetween, one-swap}
-use Rattle.link.specs.Tables.{tablesOf}
-use Rattle.link.specs.Events.{Event, start, step, State, taken, startIn, stepIn, eventAt, stateAt, blockAt, headerAt, Proper, sinceAt}
+use Rattle.link.specs.Events.{Event, step, State, taken, startIn, stepIn, eventAt, stateAt, blockAt, headerAt, Proper, sinceAt}
 use Rattle.link.specs.Swaps.{ChildSwap}
-use Rattle.link.proofs.Moments.{tables, Now, Busy, Why, Follows, already, afterwards, answers, Turn, k-low}
+use Rattle.link.proofs.Moments.{tables, Busy, Why, Follows, already, afterwards, answers, k-low}
 use Rattle.link.proofs.Stepping.{turn, step-sound}
 use Rattle.link.proofs.Calls as calls
-use Rattle.link.proofs.Reached.{Good, Doing, idles, works, Kind, no-swap, swap-of, Move, move, good-always}
+use Rattle.link.proofs.Reached.{Good, Doing, idles, works, Kind, no-swap, swap-of, move, good-always}
 use Rattle.link.proofs.Beginning.{Rested, good-rest}
 
 -- the step from moment m, with the k of the whole run

@@ -1,7 +1,6 @@
 -- Run (b) of the paper's table, through the theorems: insert 3 into the fresh tree is answered yes at 8 steps, and its child swap is behind it.
 use Prim.Native.Nat.{ℕ}
 use mathlib.Core.Path.{_≡_, refl}
-use mathlib.Core.Bool.{true}
 use mathlib.Core.List.{List, [], _∷_}
 use native.Mathlib.Omega.{arith}
 use lib.ListN.{replicate}
@@ -11,7 +10,6 @@ use Rattle.tables.specs.Header.{headerGood}
 use Rattle.tables.specs.Keys.{rises, holds, firstAt}
 use Rattle.process.specs.Process.{idle}
 use Rattle.process.specs.declared.Answer.the-variants.{Yes}
-use Rattle.process.specs.declared.StepAnswer.the-variants.{Ended}
 use Rattle.damage.specs.Fields as fields
 use Rattle.damage.specs.Helped.{recordGood, helpedGood}
 use Rattle.draws.specs.Draw.{leavesFrom, committed, replaceDrawn}
@@ -19,7 +17,7 @@ use Rattle.points.specs.Help.{helpEnded}
 use Rattle.points.specs.Rows.{lookRow, hangRow, unflagRow, row1, row2, row4, row6, row7, row8, rowOf}
 use Rattle.index.specs.Calls.{startCall, stepCall}
 use Rattle.link.specs.Operations.{Answered}
-use Rattle.link.specs.Events.{Event, start, step, State, taken, AllProper, empty, also, stepIn, stateAt, freshState}
+use Rattle.link.specs.Events.{Event, start, step, State, taken, AllProper, empty, also, stateAt, freshState}
 use Rattle.link.proofs.Clauses.{Reached}
 use Rattle.link.proofs.Answers.{Behind, yes-behind}
 use Rattle.link.proofs.Origins.{reached-fresh}

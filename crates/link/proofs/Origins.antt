@@ -1,8 +1,8 @@
 -- Every record in use comes from an operation: which step drew it, and the start that the step goes back to.
 use Prim.Native.Nat.{ℕ, zero, suc, _+_, _-_, _≤_, _<_}
-use mathlib.Core.Path.{_≡_, refl, sym, ap, _∙_, subst}
-use mathlib.Core.Logic.{_≢_, _⊎_, inl, inr}
-use mathlib.Core.Bool.{Bool, true, false}
+use mathlib.Core.Path.{_≡_, ap, _∙_}
+use mathlib.Core.Logic.{_≢_}
+use mathlib.Core.Bool.{true}
 use mathlib.Core.List.{List}
 use native.Mathlib.Omega.{arith}
 use lib.ListN.{length}
@@ -15,16 +15,14 @@ use Rattle.process.specs.declared.Process.{Process}
 use Rattle.points.specs.Rows.{rowOf}
 use Rattle.history.specs.View.{In}
 use Rattle.history.specs.Shared.{Desc, Shared}
-use Rattle.history.specs.Effects.{SetMoves, Grown}
 use Rattle.history.proofs.Swapping.{DrawnAt, drawn-between}
 use Rattle.link.specs.Tables.{descOf}
-use Rattle.link.specs.Events.{Event, step, State, taken, stepIn, eventAt, stateAt, blockAt, headerAt, sinceAt, Proper, AllProper, empty, also, freshState}
-use Rattle.link.specs.Swaps.{ChildSwap}
-use Rattle.link.proofs.Moments.{tables, Busy}
+use Rattle.link.specs.Events.{Event, step, State, taken, eventAt, stateAt, blockAt, headerAt, Proper, AllProper, empty, also, freshState}
+use Rattle.link.proofs.Moments.{tables}
 use Rattle.link.proofs.Reached.{its-turn, taken-own, state-is, block-is, header-is}
 use Rattle.link.proofs.Outcomes.{Outcome, nothing, begun, moved, outcome}
 use Rattle.link.proofs.Beginning.{Rested, fresh-rested}
-use Rattle.link.proofs.Clauses.{Reached, good, hk, run, sound₀, grows, set-changes, swap-at}
+use Rattle.link.proofs.Clauses.{Reached, good, hk, run, sound₀, grows}
 use Rattle.link.proofs.Story.{Story, story}
 
 -- record r, as it stands at moment m: the step that drew it, and the operation and key that it was drawn for

@@ -1,27 +1,21 @@
 -- What an event does, in one of three ways: nothing; an accepted start; an accepted step.
-use Prim.Native.Nat.{ℕ, zero, suc, _+_, _-_, _≤_, _<_}
-use mathlib.Core.Path.{_≡_, refl, sym, ap, _∙_, subst}
-use mathlib.Core.Logic.{_≢_, _⊎_, inl, inr}
+use Prim.Native.Nat.{ℕ, suc, _-_}
+use mathlib.Core.Path.{_≡_, refl, sym, ap, _∙_}
+use mathlib.Core.Logic.{_≢_}
 use mathlib.Core.Bool.{Bool, true, false}
 use mathlib.Core.List.{List}
-use native.Mathlib.Omega.{arith}
 use lib.Dec.{eqb}
 use borrow.Author.Tests.{eq-eqb, ne-eqb}
-use Rattle.tables.specs.Choice.{pick, both}
+use Rattle.tables.specs.Choice.{both}
 use Rattle.tables.specs.declared.header.Header.{Header}
 use Rattle.process.specs.declared.Process.{Process}
-use Rattle.process.specs.declared.Answer.{Answer}
-use Rattle.process.specs.declared.StepAnswer.{StepAnswer}
-use Rattle.process.specs.declared.StepAnswer.the-variants.{GoesOn, Ended, Refused}
 use Rattle.process.specs.declared.Stepped.{Stepped}
 use Rattle.process.specs.Process.{startedAs}
-use Rattle.process.specs.Answer.{stepsUp}
-use Rattle.points.specs.Rows.{rowOf}
 use Rattle.index.specs.Calls.{StartOut, StepOut}
 use Rattle.history.specs.View.{In}
-use Rattle.link.specs.Events.{Event, start, step, State, taken, startIn, stepIn, eventAt, stateAt, blockAt, headerAt, Proper, isAccepted, starts, isAnswered, steppedBy, sinceAt}
+use Rattle.link.specs.Events.{Event, start, step, State, taken, startIn, stepIn, eventAt, stateAt, blockAt, headerAt, isAccepted, starts, isAnswered, steppedBy, sinceAt}
 use Rattle.link.proofs.Checks.{both-is}
-use Rattle.link.proofs.Moments.{tables, Now, Busy, Why, Follows, already, afterwards, answers}
+use Rattle.link.proofs.Moments.{Busy, Follows, already, afterwards, answers}
 use Rattle.link.proofs.Stepping.{turn, step-sound}
 use Rattle.link.proofs.Calls as calls
 use Rattle.link.proofs.Calls.{putBack, stepRefusedIn, stepDoneIn, stepped-to, started-to}

@@ -1,8 +1,7 @@
 -- A record that stands is the own record of a busy process: so when all are idle, every node of the tree is clean.
-use Prim.Native.Nat.{ℕ, zero, suc, _+_, _*_, _-_, _≤_, _<_}
-use mathlib.Core.Path.{_≡_, refl, sym, ap, _∙_, subst}
-use mathlib.Core.Logic.{_≢_, _⊎_, inl, inr}
-use mathlib.Core.Bool.{Bool, true, false}
+use Prim.Native.Nat.{ℕ, zero, suc, _*_, _-_, _≤_, _<_}
+use mathlib.Core.Path.{_≡_, sym, ap, _∙_, subst}
+use mathlib.Core.Logic.{_≢_}
 use mathlib.Core.List.{List}
 use native.Mathlib.Omega.{arith}
 use native.Mathlib.Decide.{ℕ-discrete, decLe}
@@ -14,7 +13,6 @@ use Rattle.process.specs.Process.{startedAs}
 use Rattle.points.specs.Rows.{rowOf}
 use Rattle.link.proofs.Calls.{stepDoneIn}
 use Rattle.history.specs.View.{In, Reach}
-use Rattle.history.specs.Effects.{Grown}
 use Rattle.history.specs.Shared.{Desc, Shared, Stands}
 use Rattle.history.proofs.Quiet.{stands-before, quiet-clean}
 use Rattle.link.specs.Tables.{tablesOf}

@@ -1,17 +1,16 @@
 -- Every moment of a list of events keeps the invariant of the real state, and no event is refused as damaged.
-use Prim.Native.Nat.{ℕ, zero, suc, _+_, _*_, _-_, _≤_, _<_}
+use Prim.Native.Nat.{ℕ, zero, suc, _-_, _≤_, _<_}
 use mathlib.Core.Path.{_≡_, refl, sym, ap, _∙_, subst}
 use mathlib.Core.Logic.{_≢_, _⊎_, inl, inr}
-use mathlib.Core.Bool.{Bool, true, false, not}
+use mathlib.Core.Bool.{Bool, true, false}
 use mathlib.Core.List.{List}
 use native.Mathlib.Omega.{arith}
 use native.Mathlib.Decide.{ℕ-discrete}
 use lib.Dec.{eqb}
-use lib.ListN.{length, getD, set, length-set}
+use lib.ListN.{length, length-set}
 use lib.Seq.{getD-set-same, getD-set-other}
 use borrow.Author.Tests.{eq-eqb, ne-eqb}
 use Rattle.tables.specs.Choice.{pick, both}
-use Rattle.tables.specs.Numbers.{infinity}
 use Rattle.tables.specs.Layout.{childWord}
 use Rattle.tables.specs.Header.{headerOf}
 use Rattle.tables.specs.declared.header.Header.{Header}
@@ -28,7 +27,7 @@ use Rattle.link.specs.Events.{Event, start, step, State, taken, startIn,
 use Rattle.link.specs.Swaps.{Swapping, seven, thirteen, ChildSwap}
 use Rattle.link.proofs.Checks.{both-is}
 use Rattle.link.proofs.Minds.{mindOf}
-use Rattle.link.proofs.Moments.{tables, Now, Busy, Swapper, at-7, at-13, nobody, Turn, same-self, same-none, k-low, now-sound, held-root, descends-root, counters-root}
+use Rattle.link.proofs.Moments.{tables, Now, Busy, Swapper, at-7, at-13, nobody, Turn, same-self, same-none, k-low, held-root, descends-root, counters-root}
 use Rattle.link.proofs.Searching.{known}
 use Rattle.link.proofs.Stepping.{turn, step-sound}
 use Rattle.link.proofs.Carry.{Shift, turn-shift, shift-self, shift-to, follows-to, now-next, place-back, busy-next, busy-own}

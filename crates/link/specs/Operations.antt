@@ -3,12 +3,9 @@ use Prim.Native.Nat.{ℕ, suc, _+_}
 use mathlib.Core.Path.{_≡_}
 use mathlib.Core.Logic.{_≢_}
 use mathlib.Core.List.{List}
-use Rattle.tables.specs.declared.header.Header.{Header}
-use Rattle.process.specs.declared.Process.{Process}
 use Rattle.process.specs.declared.Answer.{Answer}
 use Rattle.process.specs.declared.StepAnswer.the-variants.{Ended}
 use Rattle.points.specs.declared.start.StartAnswer.the-variants.{Accepted}
-use Rattle.index.specs.Calls.{StartOut, StepOut}
 use Rattle.link.specs.Events.{Event, start, step, State, taken, startIn, stepIn, eventAt, stateAt, headerAt, sinceAt}
 
 -- event i is an accepted start of process n, of an operation and a key: it stands for the operation

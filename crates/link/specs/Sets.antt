@@ -2,7 +2,6 @@
 use Prim.Native.Nat.{ℕ}
 use mathlib.Core.List.{List}
 use Rattle.tables.specs.Header.{headerOf}
-use Rattle.tables.specs.declared.header.Header.{Header}
 use Rattle.history.specs.View.{View, Holds}
 use Rattle.history.specs.Shared.{Shared}
 use Rattle.link.specs.Tables.{tablesOf}
