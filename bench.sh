@@ -7,8 +7,8 @@ top=$(cd "$(dirname "${BASH_SOURCE[0]}")" && pwd -P)
 [ $# -le 1 ] || { echo "usage: bench.sh [FILE]" >&2; exit 2; }
 rt=$(command -v rt) || { echo "bench.sh: the Rattle kit's command rt is missing" >&2; exit 1; }
 program=$top/target/bin/bench
-if [ ! -x "$program" ]; then
-    echo "bench.sh: proving and building the bench, once" >&2
+if [ ! -x "$program" ] || [ -n "$(find "$top/crates" "$top/crates.txt" -newer "$program" -print -quit)" ]; then
+    echo "bench.sh: proving and building the bench, where a source is newer than it" >&2
     said=$(cd "$top" && rt check bench 2>&1) || { printf '%s\n' "$said" >&2; exit 1; }
 fi
 # Programs are for x86-64 and run under the kit's own loader and C library; on another processor its emulator runs them, as rt does.
