@@ -31,11 +31,11 @@ module _ (T : Ended) (c : (M : Type 1) (𝓤 : URA M) (H : Heap 𝓤) → Atoms 
       let d = c (w .M) (w .𝓤) (w .H) (w .A) (w .mem) (w .run) κs a in
       (g : d .ghost) × (m : w .M) × d .ensures g (o .0) (atExit T κs a (o .1)) .holds m
 
-  -- two outcomes that both meet the promise for the same arguments are seen alike. A contract's facts are truncated, and so is this one
+  -- two outcomes that both meet the promise for the same arguments are seen alike.
   abbrev pub OneAs : (X : Type 0) → ((κs : Lfts (T .signature .lifetimes)) (a : Args (T .signature) κs) → Outcome κs a → X) → Type 2
   OneAs X seen =
-      (w : Model) (κs : Lfts (T .signature .lifetimes)) (a : Args (T .signature) κs) (o o′ : Outcome κs a) → Promised w κs a o → Promised w κs a o′ → ∥ seen κs a o ≡ seen κs a o′ ∥₁
+      (w : Model) (κs : Lfts (T .signature .lifetimes)) (a : Args (T .signature) κs) (o o′ : Outcome κs a) → Promised w κs a o → Promised w κs a o′ → seen κs a o ≡ seen κs a o′
 
   -- two outcomes that both meet the promise for the same arguments are equal
   abbrev pub OneOutcome : Type 2
-  OneOutcome = (w : Model) (κs : Lfts (T .signature .lifetimes)) (a : Args (T .signature) κs) (o o′ : Outcome κs a) → Promised w κs a o → Promised w κs a o′ → ∥ o ≡ o′ ∥₁
+  OneOutcome = (w : Model) (κs : Lfts (T .signature .lifetimes)) (a : Args (T .signature) κs) (o o′ : Outcome κs a) → Promised w κs a o → Promised w κs a o′ → o ≡ o′
