@@ -10,7 +10,7 @@ target=${1:-target} lost=0
 first_error() { # LOG
     local text
     text=$({ grep -E '^[^ ]+: error: ' "$1" | grep -v 'was not admitted' || true; grep -E '^note: [^ ]+:[0-9]+:[0-9]+: it is not proved' "$1" || true; } | head -n 1 |
-        sed -E -e 's/^note: //' -e "s|^.*/must-fail/[^/]*/[^/]*/||" -e 's/: error: /: /' -e 's/Rattle·[a-z]+·(proofs\.proofs|specs\.specs)\.//g' -e 's/Rattle·([a-z]+)\./\1./g' -e 's/(no proof of [^ ]+) .*/\1 ../' -e 's/`//g' -e 's/\|/\\|/g')
+        sed -E -e 's/^note: //' -e "s|^.*/must-fail/[^/]*/[^/]*/||" -e 's/: error: /: /' -e 's/Rattle·[a-z]+·(proofs\.proofs|specs\.specs)\.//g' -e 's/Rattle·([a-z]+)\./\1./g' -e 's/(no proof of [^ ]+) .*/\1 ../' -e 's/list the missing equation with its arguments.*/cc does not join the two sides/' -e 's/`//g' -e 's/\|/\\|/g')
     [ "${#text}" -le 160 ] || text="${text:0:160}.."
     echo "$text"
 }
@@ -25,7 +25,7 @@ echo '|---|---|---|---|'
 for edit in crates/*/must-fail/*.edit; do
     crate=${edit#crates/} crate=${crate%%/*} label=$(basename "$edit" .edit)
     log=$target/must-fail/$crate/$label/.log
-    [ -f "$log" ] || { echo "edits.sh: no log of $crate/$label" >&2; lost=1; continue; }
+    grep -qs '^logic=not-proved' "$log" || { echo "edits.sh: no log of $crate/$label" >&2; lost=1; continue; }
     says=$(sed -n 's/^# //p' "$edit" | head -n 1)
     function=$(not_proved "$log")
     echo "| $crate/$label | $says | ${function:-a law} | $(first_error "$log") |"

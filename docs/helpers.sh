@@ -34,7 +34,7 @@ said() { # FUNCTION LOG
     *'it calls'*) echo 'NOT TRIED: a callee is refused' ;;
     *'no proof: '*) sed -E 's/.*; (`search` does not close `[^`]*`).*/\1/; s/`//g' <<< "$line" ;;
     *'not proved'*)
-        line=$(grep -m 1 -E "/proofs/${path//:://}/Proof\.antt:[0-9:]+ error: " "$2" | sed -E -e 's|^.*/proofs/|proofs/|' -e 's/: error: [^:]*: /: /' -e 's/Rattle·[a-z]+·(proofs\.proofs|specs\.specs)\.//g' -e 's/(no proof of [^ ]+) .*/\1 ../' -e 's/`//g' -e 's/\|/\\|/g')
+        line=$(grep -m 1 -E "/proofs/${path//:://}/Proof\.antt:[0-9:]+ error: " "$2" | sed -E -e 's|^.*/proofs/|proofs/|' -e 's/: error: [^:]*: /: /' -e 's/Rattle·[a-z]+·(proofs\.proofs|specs\.specs)\.//g' -e 's/(no proof of [^ ]+) .*/\1 ../' -e 's/list the missing equation with its arguments.*/cc does not join the two sides/' -e 's/`//g' -e 's/\|/\\|/g')
         [ "${#line}" -le 130 ] || line="${line:0:130}.."
         echo "$line" ;;
     *) echo 'NOT TRIED: the check says nothing of it' ;;
