@@ -30,11 +30,25 @@ pub struct Bench {
 
 /// What the bench prints for this input.
 pub fn run(input: &[u8]) -> Vec<u8> {
+    ran(input).printed
+}
+
+/// The bench behind the last line of this input.
+pub fn ran(input: &[u8]) -> Bench {
     let mut bench = Bench::new();
     for line in lines(input) {
         bench.line(line);
     }
-    bench.printed
+    bench
+}
+
+/// The word of an operation.
+pub fn op_word(operation: u32) -> &'static str {
+    match operation {
+        FIND => "find",
+        INSERT => "insert",
+        _ => "delete",
+    }
 }
 
 /// R27: "a newline that ends the input starts no line".
@@ -45,6 +59,11 @@ fn lines(input: &[u8]) -> impl Iterator<Item = &[u8]> {
 impl Bench {
     pub fn new() -> Bench {
         Bench { tables: None, ended: false, printed: Vec::new() }
+    }
+
+    /// The block and the row, once they are made.
+    pub fn tables(&self) -> Option<(&[u32], &[Process])> {
+        self.tables.as_ref().map(|(block, row)| (block.as_slice(), row.as_slice()))
     }
 
     /// The point at which a busy process is, 0 for any other.
@@ -113,11 +132,7 @@ impl Bench {
     }
 
     fn print_answer(&mut self, process: u32, task: &Process, answer: Answer, steps: u32) {
-        let op = match task.operation {
-            FIND => "find",
-            INSERT => "insert",
-            _ => "delete",
-        };
+        let op = op_word(task.operation);
         let answer = match answer {
             Answer::No => "no",
             Answer::Yes => "yes",

@@ -1,5 +1,5 @@
 //! The tables of the dirty-block index and its calls, written from document 01 alone.
-//! A number such as R17 is a reading of READING.md. The fourteen points are in `step.rs`.
+//! A number such as R17 is a decision of docs/DECISIONS.md. The fourteen points are in `step.rs`.
 
 /// Stands for infinity; no key of the set is this number.
 pub const INFINITY: u32 = u32::MAX;
@@ -370,7 +370,7 @@ impl<'a> Tables<'a> {
         }
     }
 
-    fn first_keys(&self, node: u32, count: u32) -> &'a [u32] {
+    pub fn first_keys(&self, node: u32, count: u32) -> &'a [u32] {
         let at = self.header.node_at(node) + 1;
         &self.words[at..at + count as usize]
     }

@@ -4,6 +4,7 @@
 mod bench;
 mod compare;
 mod damaged;
+mod draw;
 mod engine;
 mod fault;
 mod history;
@@ -25,6 +26,7 @@ peer runs                             the runs (a) to (j), the example and the r
 peer script SEED                      the random bench script of a seed
 peer expect FIRST COUNT FOLDER        SEED.in and SEED.out for COUNT seeds
 peer compare FIRST COUNT -- COMMAND.. runs the command on each script, compares every byte
+peer draw                             the tree that a bench script on the standard input leaves, as text
 peer history FIRST COUNT              demand 3 at every moment of random histories
 peer damaged FIRST COUNT              damaged tables: no panic, refused calls change nothing
 peer fault NAME FIRST COUNT           the first history that a fault brings to harm, made small
@@ -48,6 +50,7 @@ fn called(words: &[&str]) -> Option<ExitCode> {
         ["compare", first, count, "--", ref command @ ..] if !command.is_empty() => {
             compare::compare(number(first)?, number(count)?, command)
         }
+        ["draw"] => print(draw::of_input().as_bytes()),
         ["history", first, count] => history::check(number(first)?, number(count)?),
         ["damaged", first, count] => damaged::check(number(first)?, number(count)?),
         ["fault", name, first, count] => history::show(Fault::named(name)?, number(first)?, number(count)?),

@@ -1,6 +1,6 @@
 -- The damage checks, return by return.
 use Prim.Native.Nat.{ℕ, _*_, _%_, _^_, _≤_, _<_}
-use mathlib.Core.Path.{_≡_, sym, ap}
+use mathlib.Core.Path.{_≡_, refl, sym, ap, _∙_}
 use mathlib.Core.Bool.{Bool, true, false, not}
 use mathlib.Core.List.{List}
 use native.Mathlib.Nat.{one-mul, mod-eq-of-lt, lt-of-lt-of-le}
@@ -8,15 +8,16 @@ use lib.Dec.{ltb, leb, eqb}
 use lib.Pow.{pow-lt, pow-mono}
 use borrow.Author.Tests.{lt-ltb, le-ltb, ne-eqb}
 use Rattle.tables.specs.Choice.{pick, both, within}
-use Rattle.tables.specs.Layout.{recordWord, pField, thirdField, expectedField}
+use Rattle.tables.specs.Layout.{depthOf, recordWord, pField, thirdField, expectedField}
 use Rattle.tables.specs.Pending.{pendingOf, pendingGood}
-use Rattle.tables.specs.Node.{kinOf, belowOf, isInternal, isNode}
+use Rattle.tables.specs.Node.{kinOf, belowOf, isInternal, isLeaf, isNode}
 use Rattle.tables.specs.declared.header.Header.{Header}
 use Rattle.tables.specs.declared.node.Child.{Child}
 use Rattle.tables.specs.declared.pending.Pending.{Pending}
+use Rattle.tables.proofs.Picks.{both-of}
 use Rattle.process.specs.Process.{isCleanOf}
 use Rattle.process.specs.declared.Process.{Process}
-use Rattle.damage.specs.Fields.{pointOfInsert, pointGood, given}
+use Rattle.damage.specs.Fields.{zeroOr, pointOfInsert, pointGood, given}
 use Rattle.damage.specs.Helped.{kindAt, thirdGood, expectedGood, recordGood, helpedGood}
 
 pub zero-not : (x : ℕ) → x ≡ 0 → false ≡ not (eqb x 0)
@@ -51,8 +52,8 @@ module _ (operation point : ℕ) (t r : Bool) (inside : t ≡ within 1 point 14)
   unfolding pick
   point-else e f g = cc (ne-eqb operation 1 e, ne-eqb operation 2 f)
 
-pub leaf-given : (point l : ℕ) (t r : Bool) → t ≡ within 3 point 5 → r ≡ given t l → r ≡ given (within 3 point 5) l
-leaf-given point l t r e f = cc
+pub given-of : (s t r : Bool) (x : ℕ) → s ≡ t → r ≡ given s x → r ≡ given t x
+given-of s t r x e f = f ∙ rw e refl
 
 module _ (k mask : ℕ) where
   pub mask-all : mask < 4294967296 → 32 ≤ k → true ≡ ltb mask (2 ^ k)
@@ -61,7 +62,42 @@ module _ (k mask : ℕ) where
   pub mask-is : k < 32 → ltb mask (1 * 2 ^ k % 4294967296) ≡ ltb mask (2 ^ k)
   mask-is p = ap (λ (m : ℕ). ltb mask m) (rw one-mul (mod-eq-of-lt (pow-lt {j = 32} p)))
 
-pub ruleset damages = (zero-not, more-not, insert-three, insert-five, insert-else, point-find, point-insert, point-else, leaf-given, mask-all, mask-is)
+pub ruleset damages = (zero-not, more-not, insert-three, insert-five, insert-else, point-find, point-insert, point-else, given-of, mask-all, mask-is)
+
+pub depth-is : (h : Header) (depth d : ℕ) (t : Bool) → d ≡ depthOf h → t ≡ leb depth d → t ≡ leb depth (depthOf h)
+depth-is h depth d t e f = f ∙ ap (leb depth) e
+
+-- no node, or one of a kind
+module _ (b : List ℕ) (h : Header) (node : ℕ) (c : Child) (t r : Bool) (e : c ≡ kinOf b h node) (z : r ≡ zeroOr node t) where
+  pub zero-internal : t ≡ isInternal c → r ≡ zeroOr node (isInternal (kinOf b h node))
+  zero-internal f = z ∙ rw (f, e) refl
+
+  pub zero-leaf : t ≡ isLeaf c → r ≡ zeroOr node (isLeaf (kinOf b h node))
+  zero-leaf f = z ∙ rw (f, e) refl
+
+  pub zero-node : t ≡ isNode c → r ≡ zeroOr node (isNode (kinOf b h node))
+  zero-node f = z ∙ rw (f, e) refl
+
+-- what is asked of a word that was read
+module _ (b : List ℕ) (h : Header) (node place : ℕ) (c : Child) (t : Bool) (e : c ≡ kinOf b h node) (f : node ≡ place) where
+  pub internal-at : t ≡ isInternal c → t ≡ isInternal (kinOf b h place)
+  internal-at g = g ∙ rw (e, f) refl
+
+  pub leaf-at : t ≡ isLeaf c → t ≡ isLeaf (kinOf b h place)
+  leaf-at g = g ∙ rw (e, f) refl
+
+module _ (x y : ℕ) (t : Bool) (e : x ≡ y) where
+  pub within-at : (lo hi : ℕ) → t ≡ within lo x hi → t ≡ within lo y hi
+  within-at lo hi f = f ∙ rw e refl
+
+  pub below-at : (n : ℕ) → t ≡ ltb x n → t ≡ ltb y n
+  below-at n f = f ∙ rw e refl
+
+pub ruleset kinds = (both-of, internal-at, leaf-at)
+
+pub ruleset uses = (both-of, given-of)
+
+pub ruleset owners = (both-of, within-at, below-at)
 
 module _ (b : List ℕ) (h : Header) (kind r third : ℕ) (c : Child) (t : Bool) (e : third ≡ recordWord b h r thirdField) where
   pub third-replace : (p : ℕ) → kind ≡ 1 → p ≡ recordWord b h r pField → c ≡ belowOf b h p third → t ≡ isNode c → t ≡ thirdGood b h kind r

@@ -3,17 +3,13 @@ use Prim.Native.Nat.{ℕ, _^_}
 use mathlib.Core.Bool.{Bool, true, not}
 use mathlib.Core.List.{List}
 use lib.Dec.{ltb, leb, eqb}
-use Rattle.tables.specs.Choice.{pick, both, within}
+use Rattle.tables.specs.Choice.{pick, both, either, within}
 use Rattle.tables.specs.Numbers.{infinity}
 use Rattle.tables.specs.Layout.{depthOf}
 use Rattle.tables.specs.Pending.{pendingGood}
 use Rattle.tables.specs.Node.{kinOf, isNode, isInternal, isLeaf}
 use Rattle.tables.specs.declared.header.Header.{Header}
 use Rattle.process.specs.declared.Process.{Process}
-
--- one of two tests holds
-abbrev pub either : Bool → Bool → Bool
-either s t = pick s true t
 
 -- nothing there, or something of its kind
 abbrev pub zeroOr : ℕ → Bool → Bool

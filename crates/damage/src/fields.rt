@@ -6,7 +6,7 @@ ghost use lib.Dec.{ltb, leb, eqb};
 ghost use Rattle.tables.specs.Choice.{within};
 ghost use Rattle.tables.specs.Layout.{depthOf};
 ghost use Rattle.tables.specs.Node.{kinOf, isInternal, isLeaf, isNode};
-ghost use Rattle.damage.specs.Fields.{either as eitherOf, zeroOr, pointOfInsert, pointGood, numbersGood, nodesGood, recordsGood, usesIndex, given as givenOf, usesGood, processGood};
+ghost use Rattle.damage.specs.Fields.{zeroOr, pointOfInsert, pointGood, numbersGood, nodesGood, recordsGood, usesIndex, given as givenOf, usesGood, processGood};
 use process::Process;
 use tables::choice;
 use tables::header;
@@ -14,12 +14,6 @@ use tables::header::Header;
 use tables::node;
 use tables::numbers;
 use tables::pending;
-
-pub fn either(s: bool, t: bool) -> bool
-    ensures { λ r. ⌜ r ≡ eitherOf s t ⌝ }
-{
-    if s { true } else { t }
-}
 
 fn zero_or(x: u32, t: bool) -> bool
     ensures { λ r. ⌜ r ≡ zeroOr x t ⌝ }
@@ -151,7 +145,7 @@ fn uses_index(point: u32) -> bool
 {
     let a = choice::within(6, point as u64, 7);
     let b = choice::within(11, point as u64, 13);
-    either(point == 3, either(a, b))
+    choice::or(point == 3, choice::or(a, b))
 }
 
 fn given(used: bool, x: u32) -> bool

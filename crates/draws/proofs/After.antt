@@ -20,7 +20,7 @@ use Rattle.tables.specs.Pending.{replaceKind}
 use Rattle.tables.specs.declared.header.Header.{Header}
 use Rattle.tables.proofs.Picks.{both-1, both-2, pick-true}
 use Rattle.tables.proofs.Lists.{length-listed, getD-listed₀}
-use Rattle.tables.proofs.Places.{read-same, read-other, node-same, node-other, record-same, record-other}
+use Rattle.tables.proofs.Places.{header-node, header-record, node-record, read-same, read-other, node-same, node-other, record-same, record-other}
 use Rattle.draws.specs.declared.Job.{Job}
 use Rattle.draws.specs.Draw.{newNode, newRecord, roomFor, sprouts, neededNodes, newKeys, newCount, leafDrawn, largest, leavesFrom, sproutLeaves, sproutDrawn, nodesDrawn, recordImage, recordDrawn, committed, replaceDrawn}
 
@@ -31,16 +31,6 @@ pub record Room (h : Header) (needed : ℕ) : Type 0 where
 
 pub room-is : (h : Header) (needed : ℕ) → roomFor h needed ≡ true → Room h needed
 room-is h needed e = record { record-left = ltb-true _ _ (both-1 _ _ e); nodes-left = leb-true _ _ (both-2 _ _ e) }
-
--- places of different areas
-header-node : (i n o : ℕ) → inHeader i ≡ inNode n o → ⊥
-header-node i n o e = let z : _≡_ {A = ℕ} 0 1 = cc in omega arith
-
-header-record : (i r f : ℕ) → inHeader i ≡ inRecord r f → ⊥
-header-record i r f e = let z : _≡_ {A = ℕ} 0 1 = cc in omega arith
-
-node-record : (n o r f : ℕ) → inNode n o ≡ inRecord r f → ⊥
-node-record n o r f e = let z : _≡_ {A = ℕ} 0 1 = cc in omega arith
 
 -- places of different rows or words
 header-one : (i k : ℕ) → inHeader i ≡ inHeader k → i ≡ k

@@ -6,18 +6,9 @@ use native.Mathlib.Omega.{arith}
 use Rattle.history.specs.View.{In}
 use Rattle.history.specs.Shared.{Shared}
 use Rattle.history.specs.Change.{SwapChild, draw-replace, draw-prune, swap-replace, unflag-replace, mark, swap-prune, unflag-prune}
-use Rattle.history.specs.Effects.{swaps}
+use Rattle.history.specs.Effects.{swaps, Moved}
 use Rattle.history.specs.Run.{Step, changes, rests, step-swaps}
 use Rattle.history.proofs.Invariant.{Sound}
-
--- one child word, of a node in use, is another now; every other is as it was
-pub record Moved (k : ℕ) (S S′ : Shared) : Type 0 where
-  pub node : ℕ
-  pub index : ℕ
-  pub used : In (S .nodes) node
-  pub index-in : In k index
-  pub other-word : S′ .view .child node index ≢ S .view .child node index
-  pub rest-same : (n j : ℕ) → In (S .nodes) n → In k j → ¬ ((n ≡ node) × (j ≡ index)) → S′ .view .child n j ≡ S .view .child n j
 
 moved : {k : ℕ} {S S′ : Shared} (n i v w : ℕ) → In (S .nodes) n → In k i → S .view .child n i ≡ w → w ≢ v
     → SwapChild k (S .nodes) (S .view) (S′ .view) n i v → Moved k S S′

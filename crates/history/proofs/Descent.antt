@@ -8,7 +8,7 @@ use native.Mathlib.Omega.{arith}
 use Rattle.history.specs.View.{In, infinity, route, keys, On, root, Reach, by, Holds}
 use Rattle.history.specs.Shared.{Shared, Pair}
 use Rattle.history.specs.Change.{rank}
-use Rattle.history.specs.Run.{Step, Run}
+use Rattle.history.specs.Run.{Step, Run, Moment}
 use Rattle.history.proofs.Route.{route-slot}
 use Rattle.history.proofs.Paths.{on-reach}
 use Rattle.history.proofs.Invariant.{Word, Sound}
@@ -18,7 +18,7 @@ use Rattle.history.proofs.Brings.{keys-alone}
 use Rattle.history.proofs.Keep.{touched}
 use Rattle.history.proofs.Lasting.{grown, frozen}
 use Rattle.history.proofs.Runs.{sound-at}
-use Rattle.history.proofs.SearchPath.{Moment, later, was-used, was-on, was-read, read-has, read-lacks}
+use Rattle.history.proofs.SearchPath.{later, was-used, was-on, was-read, read-has, read-lacks}
 use Rattle.history.proofs.Pairs.{full, full-count, full-no, full-most, pair-of}
 use Rattle.history.proofs.Remember.{Seen, seen-more, seen-child, seen-count, word-stays}
 

@@ -1,6 +1,6 @@
 -- 4, 5: what a process knows, the compare that succeeds and the words it writes make a draw, and what it knows after.
 use mathlib.Core.Path.{_≡_, refl, sym, _∙_}
-use Prim.Native.Nat.{ℕ, suc, _+_, _*_, _≤_, _<_}
+use Prim.Native.Nat.{ℕ, _+_, _*_, _≤_, _<_}
 use native.Mathlib.Omega.{arith}
 use Rattle.history.specs.View.{View, In, infinity, keys}
 use Rattle.history.specs.Keys.{put-in, take-out}

@@ -5,13 +5,14 @@ use Prim.Native.Nat.{ℕ, suc, _+_, _*_, _≤_, _<_}
 use native.Mathlib.Decide.{ℕ-discrete, decLt}
 use native.Mathlib.Omega.{arith}
 use Rattle.history.specs.View.{View, In, route, Reach}
+use Rattle.history.specs.Effects.{Grown}
 use Rattle.history.specs.Shared.{Shared, Done, replaced, pruned, Pair}
 use Rattle.history.specs.Run.{Step}
 use Rattle.history.proofs.Route.{route-slot}
 use Rattle.history.proofs.Paths.{on-reach}
 use Rattle.history.proofs.Invariant.{Shape, Status, waits, over, asks, stands-marked, finished, dropped, Sound}
 use Rattle.history.proofs.Touch.{child-used}
-use Rattle.history.proofs.Lasting.{Grown, grown, Frozen, frozen, done-stays}
+use Rattle.history.proofs.Lasting.{grown, Frozen, frozen, done-stays}
 
 -- a helper looks for child v of node n: l below p at 6 and 7, p below gp at 12 and 13. Where the record is not done, v is the child
 -- for its key, and no other is v

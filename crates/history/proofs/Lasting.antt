@@ -7,7 +7,7 @@ use Rattle.history.specs.View.{In, On}
 use Rattle.history.specs.Shared.{Shared, NoChild, Done, replaced, pruned, Failed}
 use Rattle.history.specs.Change.{rank, SameTables, Change, draw-replace, draw-prune, swap-replace, unflag-replace, mark, swap-prune}
 use Rattle.history.specs.Change.{unflag-prune}
-use Rattle.history.specs.Effects.{swaps}
+use Rattle.history.specs.Effects.{swaps, Grown}
 use Rattle.history.specs.Run.{Step, changes, rests, step-swaps}
 use Rattle.history.proofs.Invariant.{Dropped, Sound}
 use Rattle.history.proofs.Touch.{keep-over, keep-finished, keep-dropped, mark-stays, mark-kids}
@@ -15,14 +15,6 @@ use Rattle.history.proofs.Standing.{waiting, standing, done-over, done-
 use Rattle.history.proofs.SwapReplace.{swap-replace-over}
 use Rattle.history.proofs.SwapPrune.{written, swap-prune-finished}
 use Rattle.history.proofs.Keep.{Touched, touched}
-
--- tags and keys of nodes in use and all words of records in use never change; the used counts never fall
-pub record Grown (S S′ : Shared) : Type 0 where
-  pub nodes-more : S .nodes ≤ S′ .nodes
-  pub records-more : S .records ≤ S′ .records
-  pub tag-same : (n : ℕ) → In (S .nodes) n → S′ .view .tag n ≡ S .view .tag n
-  pub key-same : (n : ℕ) → In (S .nodes) n → S′ .view .key n ≡ S .view .key n
-  pub rec-same : (q : ℕ) → In (S .records) q → S′ .rec q ≡ S .rec q
 
 -- a marked node keeps its mark and its children
 pub record Frozen (k : ℕ) (S S′ : Shared) (n : ℕ) : Type 0 where

@@ -4,11 +4,12 @@ use Prim.Native.Nat.{ℕ, zero, suc, _+_, _*_, _≤_, _<_}
 use native.Mathlib.Decide.{ℕ-discrete}
 use native.Mathlib.Omega.{arith}
 use Rattle.history.specs.View.{In}
+use Rattle.history.specs.Effects.{Grown}
 use Rattle.history.specs.Shared.{Shared, Done, Failed}
 use Rattle.history.specs.Run.{Step, Run}
 use Rattle.history.proofs.Invariant.{Sound}
 use Rattle.history.proofs.Keep.{step-keeps}
-use Rattle.history.proofs.Lasting.{Grown, Frozen, grown, frozen, done-stays, failed-stays}
+use Rattle.history.proofs.Lasting.{Frozen, grown, frozen, done-stays, failed-stays}
 
 grown-none : {A : Shared} → Grown A A
 grown-none = record {

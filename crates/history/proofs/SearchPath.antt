@@ -6,14 +6,15 @@ use Prim.Native.Nat.{ℕ, zero, suc, _+_, _*_, _/_, _%_, _≤_}
 use native.Mathlib.Decide.{ℕ-discrete}
 use native.Mathlib.Omega.{arith}
 use Rattle.history.specs.View.{In, route, keys, On, Holds}
+use Rattle.history.specs.Effects.{Grown}
 use Rattle.history.specs.Shared.{Shared}
-use Rattle.history.specs.Run.{Run}
+use Rattle.history.specs.Run.{Run, Moment}
 use Rattle.history.proofs.Route.{route-slot}
 use Rattle.history.proofs.Paths.{keys-same, on-down, on-reach}
 use Rattle.history.proofs.Invariant.{Sound}
 use Rattle.history.proofs.Touch.{reach-used}
 use Rattle.history.proofs.SetLaws.{one-place}
-use Rattle.history.proofs.Lasting.{Grown, Frozen, frozen, stays-on}
+use Rattle.history.proofs.Lasting.{Frozen, frozen, stays-on}
 use Rattle.history.proofs.Runs.{sound-at, grown-at}
 
 -- is a word a mark?
@@ -23,13 +24,6 @@ marked? w = go (ℕ-discrete (w % 4) 3)
     go : Dec (w % 4 ≡ 3) → ((q : ℕ) × (w ≡ 4 * q + 3)) ⊎ ((q : ℕ) → w ≢ 4 * q + 3)
     go (yes e) = inl (w / 4, omega arith)
     go (no e) = inr (λ q z. e (omega arith))
-
--- from moment i to moment j
-pub record Moment (i j : ℕ) (P : ℕ → Type 0) : Type 0 where
-  pub when : ℕ
-  pub from : i ≤ when
-  pub to : when ≤ j
-  pub holds : P when
 
 pub later : {i j j′ : ℕ} {P : ℕ → Type 0} → j ≤ j′ → Moment i j P → Moment i j′ P
 later h m = record { when = m .when; from = m .from; to = omega (arith, m .to); holds = m .holds }

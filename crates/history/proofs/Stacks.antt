@@ -4,10 +4,11 @@ use Prim.Native.Nat.{ℕ, suc, _*_, _-_, _/_, _≤_, _<_}
 use native.Mathlib.Decide.{ℕ-discrete}
 use native.Mathlib.Omega.{arith}
 use Rattle.history.specs.View.{In}
+use Rattle.history.specs.Effects.{Grown}
 use Rattle.history.specs.Shared.{Shared, Failed}
 use Rattle.history.specs.Run.{Step}
 use Rattle.history.proofs.Invariant.{Sound}
-use Rattle.history.proofs.Lasting.{Grown, grown, failed-stays}
+use Rattle.history.proofs.Lasting.{grown, failed-stays}
 use Rattle.history.proofs.Depth.{Chain, depth-bound}
 
 -- entries 0 to d - 1 of a stack, from its bottom

@@ -1,8 +1,8 @@
 -- What a change makes of the set, and which record's swap it is.
 use mathlib.Core.Path.{_≡_}
 use mathlib.Core.Logic.{_≢_, _↔_}
-use Prim.Native.Nat.{ℕ}
-use Rattle.history.specs.View.{View, Holds}
+use Prim.Native.Nat.{ℕ, _≤_}
+use Rattle.history.specs.View.{View, In, Holds}
 use Rattle.history.specs.Shared.{Desc, Shared}
 use Rattle.history.specs.Change.{Change, draw-replace, draw-prune, swap-replace, unflag-replace, mark, swap-prune, unflag-prune}
 
@@ -37,3 +37,20 @@ module _ (k : ℕ) where
   swaps (mark r h kd e w same) = 0
   swaps (swap-prune r i other h kd mk j sj ej full d s e w same) = r
   swaps (unflag-prune r h kd e d w same) = 0
+
+-- one child word, of a node in use, is another now; every other is as it was
+pub record Moved (k : ℕ) (S S′ : Shared) : Type 0 where
+  pub node : ℕ
+  pub index : ℕ
+  pub used : In (S .nodes) node
+  pub index-in : In k index
+  pub other-word : S′ .view .child node index ≢ S .view .child node index
+  pub rest-same : (n j : ℕ) → In (S .nodes) n → In k j → ¬ ((n ≡ node) × (j ≡ index)) → S′ .view .child n j ≡ S .view .child n j
+
+-- tags and keys of nodes in use and all words of records in use never change; the used counts never fall
+pub record Grown (S S′ : Shared) : Type 0 where
+  pub nodes-more : S .nodes ≤ S′ .nodes
+  pub records-more : S .records ≤ S′ .records
+  pub tag-same : (n : ℕ) → In (S .nodes) n → S′ .view .tag n ≡ S .view .tag n
+  pub key-same : (n : ℕ) → In (S .nodes) n → S′ .view .key n ≡ S .view .key n
+  pub rec-same : (q : ℕ) → In (S .records) q → S′ .rec q ≡ S .rec q

@@ -1,6 +1,6 @@
 -- A run: states, each the one before it changed by one touch, or as it was.
 use mathlib.Core.Path.{_≡_}
-use Prim.Native.Nat.{ℕ, suc, _<_}
+use Prim.Native.Nat.{ℕ, suc, _≤_, _<_}
 use Rattle.history.specs.View.{In}
 use Rattle.history.specs.Shared.{Shared}
 use Rattle.history.specs.Change.{SameTables, Change}
@@ -32,3 +32,10 @@ module _ (k : ℕ) where
   pub record SwapAt (S : ℕ → Shared) (r i : ℕ) : Type 0 where
     pub step : Step (S i) (S (suc i))
     pub is : step-swaps step ≡ r
+
+-- at some moment from i to j
+pub record Moment (i j : ℕ) (P : ℕ → Type 0) : Type 0 where
+  pub when : ℕ
+  pub from : i ≤ when
+  pub to : when ≤ j
+  pub holds : P when

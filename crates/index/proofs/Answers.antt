@@ -10,7 +10,7 @@ use Rattle.tables.specs.Header.{headerOf}
 use Rattle.tables.specs.declared.numbers.Refusal.{Refusal}
 use Rattle.tables.specs.declared.fresh.Made.{Made}
 use Rattle.tables.specs.declared.fresh.Made.the-variants as made
-use Rattle.tables.proofs.OneToOne.{refusal-number}
+use Rattle.tables.proofs.OneToOne.{refusal-number, decide-on}
 use Rattle.process.specs.Answer.{answer, answerNumber}
 use Rattle.process.specs.declared.Process.{Process}
 use Rattle.process.specs.declared.Answer.{Answer}
@@ -23,7 +23,6 @@ use Rattle.points.specs.declared.start.StartAnswer.{StartAnswer}
 use Rattle.points.specs.declared.start.StartAnswer.the-variants as starts
 use Rattle.index.specs.Calls.{recordOf, makeReasons, MakeOut, makeOut, makeCall, StartOut, startOut, startCall, StepOut, stepOut, stepBy, stepCall}
 use Rattle.index.specs.Answers.{done, answers, refuses, madeSays, startSays, stepSays}
-use Rattle.index.proofs.Called.{decide-on}
 
 -- "Answers: 0 no, 1 yes, 2 full."
 pub answer-number : (a : Answer) → answer (answerNumber a) ≡ a

@@ -7,7 +7,7 @@ use lib.Dec.{ltb}
 use borrow.Author.Tests.{ltb-false, lt-ltb, le-ltb}
 use lib.ListN.{length, getD, set, replicate}
 use lib.Seq.{set-getD}
-use Rattle.tables.specs.Choice.{pick, Reason, decide, Verdict, refused, accepted, verdict, told}
+use Rattle.tables.specs.Choice.{pick, decide}
 use Rattle.tables.specs.Refusal.{refusal}
 use Rattle.tables.specs.Numbers.{kStored, numbersGood}
 use Rattle.tables.specs.Layout.{blockWords}
@@ -16,7 +16,7 @@ use Rattle.tables.specs.declared.numbers.Refusal.{Refusal}
 use Rattle.tables.specs.declared.numbers.Refusal.the-variants.{MakingNumber, TooShort}
 use Rattle.tables.specs.declared.fresh.Made.{Made}
 use Rattle.tables.specs.declared.fresh.Made.the-variants as made
-use Rattle.tables.proofs.OneToOne.{tells}
+use Rattle.tables.proofs.OneToOne.{decide-on}
 use Rattle.process.specs.Process.{idle}
 use Rattle.process.specs.declared.Process.{Process}
 use Rattle.process.specs.declared.Stepped.{Stepped}
@@ -28,15 +28,6 @@ use Rattle.points.specs.declared.start.StartAnswer.the-variants as starts
 use Rattle.index.specs.Calls.{recordOf, withRecord, makeReasons, MakeOut, makeOut, makeCall, StartOut, startOut, startCall, StepOut, stepOut, stepCall}
 use Rattle.index.specs.Parts.{MakingOut, makingOut, countedOf, makingRefused, makingDone, makingOf}
 use Rattle.index.specs.declared.Making.{Making}
-
--- a function of what is decided is decided by the same reasons
-module _ {A B : Type 0} (f : A → B) (g : ℕ → A) (h : ℕ → B) (a : A) (e : (n : ℕ) → f (g n) ≡ h n) where
-  told-on : (v : Verdict) → f (told g a v) ≡ told h (f a) v
-  told-on (refused n) = e n
-  told-on accepted = refl
-
-  pub decide-on : (rs : List Reason) → f (decide rs g a) ≡ decide rs h (f a)
-  decide-on rs = ap f (tells g a rs) ∙ told-on (verdict rs) ∙ sym (tells h (f a) rs)
 
 module _ (b : List ℕ) (row : List Process) (n at : ℕ) (q : Process) (place : at ≡ n - 1) (taken : q ≡ getD row at idle) where
   is-record : q ≡ recordOf row n

@@ -5,6 +5,5 @@ pub mod Lent
 pub mod Called
 pub mod OneRecord
 pub mod ByValue
-pub mod NeverRefused
 pub mod Refusals
 pub mod Answers

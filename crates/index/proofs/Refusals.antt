@@ -8,14 +8,14 @@ use native.Mathlib.Omega.{arith}
 use borrow.Author.Tests.{ltb-false, not-false}
 use lib.ListN.{length}
 use lib.Seq.{getD-set-same, getD-set-other}
-use Rattle.tables.specs.Choice.{both, within, Reason, decide, Verdict, refused, accepted, verdict, NoneHolds, nor, First}
+use Rattle.tables.specs.Choice.{both, within, Reason, NoneHolds, nor, First}
 use Rattle.tables.specs.Refusal.{numberOf, refusal}
 use Rattle.tables.specs.Header.{headerOf, blockReasons}
 use Rattle.tables.specs.Fresh.{freshHeader, freshBlock, freshRow, overFront}
 use Rattle.tables.specs.declared.numbers.Refusal.{Refusal}
 use Rattle.tables.specs.declared.fresh.Made.the-variants as made
 use Rattle.tables.proofs.Picks.{within-low, within-high}
-use Rattle.tables.proofs.OneToOne.{numbered, none-accepts, first-refuses, refused-first, accepted-none, first-answers, answers-first}
+use Rattle.tables.proofs.OneToOne.{none-accepts, call-leaves, call-exactly}
 use Rattle.process.specs.Process.{idle, startedAs}
 use Rattle.process.specs.declared.Process.{Process}
 use Rattle.process.specs.declared.StepAnswer.the-variants as steps
@@ -23,33 +23,8 @@ use Rattle.points.specs.Touch.{Row}
 use Rattle.points.specs.Rows.{rowOf}
 use Rattle.points.specs.Step.{rowReasons, startRest, startReasons, stepRest, stepReasons}
 use Rattle.points.specs.declared.start.StartAnswer.the-variants as starts
+use Rattle.points.proofs.Counted.{never-refused}
 use Rattle.index.specs.Calls.{recordOf, withRecord, makeReasons, MakeOut, makeOut, makeCall, StartOut, startOut, startCall, StepOut, stepOut, stepBy, stepCall}
-use Rattle.index.proofs.NeverRefused.{never-refused}
-
--- a call that is decided by reasons, for any of the three: `say` is its answer that refuses, `leave` all that it hands back then
-module _ {O A : Type 0} (answer : O → A) (say : Refusal → A) (leave : Refusal → O) (accepting : O) (rs : List Reason) (says : (d : Refusal) → answer (leave d) ≡ say d) (one : (d e : Refusal) → say d ≡ say e → d ≡ e)
-    (never : NoneHolds rs → (e : Refusal) → answer accepting ≡ say e → ⊥) (t : numbered rs ≡ true) (e : Refusal) where
-  abbrev call : O
-  call = decide rs (λ n. leave (refusal n)) accepting
-
-  call-first : answer call ≡ say e → First (numberOf e) rs
-  call-first a = go (verdict rs) refl
-    where
-      go : (v : Verdict) → verdict rs ≡ v → First (numberOf e) rs
-      go accepted v =
-          let n : NoneHolds rs = accepted-none rs v in
-          absurd (never n e (sym (ap answer (none-accepts (λ m. leave (refusal m)) accepting rs n)) ∙ a))
-      go (refused m) v =
-          let f : First m rs = refused-first m rs v in
-          let d : refusal m ≡ e = one (refusal m) e (sym (says (refusal m)) ∙ sym (ap answer (first-refuses (λ i. leave (refusal i)) accepting m rs f)) ∙ a) in
-          answers-first (λ x. x ∷ []) [] rs e (λ x p. cc) (λ p. let z : _≡_ {A = ℕ} 0 1 = cc in omega arith) t
-          (first-refuses (λ i. refusal i ∷ []) [] m rs f ∙ ap (λ (x : Refusal). x ∷ []) d)
-
-  call-leaves : answer call ≡ say e → call ≡ leave e
-  call-leaves a = first-answers leave accepting rs e (call-first a)
-
-  call-exactly : (answer call ≡ say e) ↔ First (numberOf e) rs
-  call-exactly = (call-first, λ f. ap answer (first-answers leave accepting rs e f) ∙ says e)
 
 one-made : (d e : Refusal) → made.Refused d ≡ made.Refused e → d ≡ e
 one-made d e f = cc

@@ -1,4 +1,4 @@
-// The calls a driver makes, over a lent block and a lent row of process records: make, start, step.
+// The calls a driver makes: make, start and step over a lent block and a lent row of process records; listing, its twin and range over the block alone.
 // Each takes at most one record out of the row, hands it by value to the calls below, and puts it back. No public one asks anything of its caller.
 ghost use mathlib.Core.Path.{_≡_};
 ghost use Prim.Native.Nat.{_-_, _≤_};
@@ -18,6 +18,13 @@ use tables::fresh::Made;
 use tables::numbers;
 use tables::numbers::Refusal;
 use tables::words;
+
+// "single calls, lent the block without the process row": proved in crate `walk`, and passed on with their contracts, so that a driver names one crate.
+pub use walk::Cleared;
+pub use walk::Listed;
+pub use walk::listing;
+pub use walk::listing_part;
+pub use walk::range;
 
 // The record at a place of the row, counted from 0; an idle one past its end.
 pub fn take(row: &[Process], at: usize) -> Process

@@ -1,45 +1,38 @@
 -- What an answer says: yes has its child swap between start and answer, no and full have none ever, finds and noes agree with the set, steps are counted.
-use Prim.Native.Nat.{ℕ, zero, suc, _+_, _-_, _≤_, _<_}
+use Prim.Native.Nat.{ℕ, suc, _+_, _-_, _≤_, _<_}
 use mathlib.Core.Path.{_≡_, refl, sym, ap, _∙_, subst}
 use mathlib.Core.Logic.{_≢_, _⊎_, inl, inr}
-use mathlib.Core.Bool.{Bool, true, false}
+use mathlib.Core.Bool.{true, false}
 use mathlib.Core.List.{List}
 use native.Mathlib.Omega.{arith}
 use native.Mathlib.Decide.{decLt}
 use borrow.Author.Tests.{eq-eqb}
 use Rattle.tables.specs.Choice.{pick}
-use Rattle.tables.specs.declared.header.Header.{Header}
 use Rattle.process.specs.declared.Process.{Process}
 use Rattle.process.specs.declared.Answer.{Answer}
 use Rattle.process.specs.declared.Answer.the-variants.{No, Yes, Full}
-use Rattle.process.specs.declared.StepAnswer.{StepAnswer}
 use Rattle.process.specs.declared.StepAnswer.the-variants.{GoesOn, Ended, Refused}
 use Rattle.process.specs.declared.Stepped.{Stepped}
-use Rattle.process.specs.Answer.{stepsUp, goingOn, endingOf}
+use Rattle.process.specs.Answer.{stepsUp}
 use Rattle.tables.specs.Refusal.{refusal}
-use Rattle.points.specs.Touch.{Out}
 use Rattle.points.specs.Rows.{rowOf}
-use Rattle.points.specs.Step.{stepRefused}
+use Rattle.index.specs.Calls.{StepOut}
 use Rattle.history.specs.View.{In, Holds}
-use Rattle.history.specs.Shared.{Desc, Shared, Done, Failed}
-use Rattle.history.proofs.SearchPath.{Moment}
-use Rattle.history.proofs.Runs.{failed-at}
+use Rattle.history.specs.Run.{Moment}
+use Rattle.history.specs.Shared.{Shared, Failed}
 use Rattle.history.proofs.Quiet.{not-both}
 use Rattle.history.proofs.Swapping.{SwapBetween, swapped-done, failed-never, swap-between}
-use Rattle.link.specs.Events.{Event, start, step, State, taken, stepIn, eventAt, stateAt, blockAt, headerAt, starts, isAnswered, steppedBy, stepsAt, capped, sinceAt}
+use Rattle.link.specs.Events.{Event, State, taken, stepIn, eventAt, stateAt, blockAt, headerAt, starts, isAnswered, steppedBy, stepsAt, capped, sinceAt}
 use Rattle.link.specs.Swaps.{ChildSwap}
+use Rattle.link.specs.Operations.{Answered}
 use Rattle.link.proofs.Checks.{both-is}
-use Rattle.link.proofs.Moments.{tables, Busy, Why, found, missing, there, not-there, no-room, did, Follows}
+use Rattle.link.proofs.Moments.{tables, Busy, Why, found, missing, there, not-there, no-room, did}
 use Rattle.link.proofs.Stepping.{turn, step-sound}
 use Rattle.link.proofs.Calls as calls
-use Rattle.link.proofs.Reached.{Good, Doing, idles, works}
-use Rattle.link.proofs.Clauses.{Reached, good, k-at, hk, run, sound, sound₀, grows, stepped-says, swap-at, swap-event, swaps-once}
+use Rattle.link.proofs.Calls.{stepRefusedIn}
+use Rattle.link.proofs.Reached.{Doing, idles, works}
+use Rattle.link.proofs.Clauses.{Reached, good, k-at, hk, run, sound, sound₀, stepped-says, swap-at, swap-event, swaps-once}
 use Rattle.link.proofs.Story.{Story, story, capped-up, steps-next}
-
--- event m is a step of process n that answers
-pub record Answered (s : State) (es : List Event) (m n : ℕ) (a : Answer) (steps : ℕ) : Type 0 where
-  pub event : eventAt es m ≡ step n
-  pub answer : stepIn (stateAt s es m) n .stepped .answer ≡ Ended a steps
 
 -- what is known then
 pub record Told (s : State) (es : List Event) (k m n : ℕ) (a : Answer) (steps : ℕ) : Type 0 where
@@ -89,8 +82,8 @@ module _ {s : State} {es : List Event} (reached : Reached s es) where
     pub told : Told s es k m n a c
     told = go (calls.step-goes (W m) (good reached m .now .fit) (good reached m .rows) n)
       where
-        refused : (r : ℕ) → stepIn (W m) n ≡ stepRefused (blockAt s es m) (taken (W m) n) r → ⊥
-        refused r e = no (sym (ap (λ (o : Out). o .stepped .answer) e) ∙ answered .answer)
+        refused : (r : ℕ) → stepIn (W m) n ≡ stepRefusedIn (W m) r → ⊥
+        refused r e = no (sym (ap (λ (o : StepOut). o .answer) e) ∙ answered .answer)
           where
             no : Refused (refusal r) ≡ Ended a c → ⊥
             no x = let z : _≡_ {A = ℕ} 0 1 = cc in omega arith
@@ -99,14 +92,14 @@ module _ {s : State} {es : List Event} (reached : Reached s es) where
         on d (idles e) = absurd (d e)
         on d (works y) = y
 
-        says : (t : Stepped) → stepIn (W m) n .stepped ≡ t → In (headerAt s es m .processes) n → q .operation ≢ 0 → i ≤ m
+        says : (t : Stepped) → stepIn (W m) n .answer ≡ t .answer → In (headerAt s es m .processes) n → q .operation ≢ 0 → i ≤ m
             → (t .answer ≡ GoesOn) ⊎ ((x : Answer) × (t .answer ≡ Ended x (stepsUp (q .steps))) × Why (headerAt s es m .k) S i m n q x) → Told s es k m n a c
-        says t e u d l (inl g) = absurd (no (sym g ∙ ap (λ (v : Stepped). v .answer) (sym e) ∙ answered .answer))
+        says t e u d l (inl g) = absurd (no (sym g ∙ sym e ∙ answered .answer))
           where
             no : GoesOn ≡ Ended a c → ⊥
             no x = let z : _≡_ {A = ℕ} 0 1 = cc in omega arith
         says t e u d l (inr g) =
-            let z = ended-one (g .0) a (stepsUp (q .steps)) c (sym (g .1) ∙ ap (λ (v : Stepped). v .answer) (sym e) ∙ answered .answer) in
+            let z = ended-one (g .0) a (stepsUp (q .steps)) c (sym (g .1) ∙ sym e ∙ answered .answer) in
             record {
               place = u;
               busy = d;
@@ -120,7 +113,7 @@ module _ {s : State} {es : List Event} (reached : Reached s es) where
         go (calls.rests u d e) = absurd (refused 8 e)
         go (calls.works u d f) =
             let y = on d (good reached m .each n u) in
-            says (rowOf (blockAt s es m) (headerAt s es m) n q .stepped) (ap (λ (o : Out). o .stepped) (f (step-sound (good reached m .now) q y))) u d (y .since)
+            says (rowOf (blockAt s es m) (headerAt s es m) n q .stepped) (ap (λ (o : StepOut). o .answer) (f (step-sound (good reached m .now) q y))) u d (y .since)
             (stepped-says (turn (good reached m .now) q y .follows))
 
     -- the start that is answered

@@ -1,21 +1,20 @@
 -- Where lists of events begin: a state at rest, and the fresh tree, which is one.
 use Prim.Native.Nat.{ℕ, zero, suc, _+_, _*_, _-_, _≤_, _<_}
 use mathlib.Core.Path.{_≡_, refl, sym, ap, _∙_, subst}
-use mathlib.Core.Bool.{Bool, true, false}
-use mathlib.Core.List.{List, [], _∷_, _++_}
+use mathlib.Core.Bool.{true}
+use mathlib.Core.List.{List, _++_}
 use native.Mathlib.Omega.{arith}
 use native.Mathlib.Decide.{ℕ-discrete}
-use native.Mathlib.Nat.{mul-le-mul-right}
 use lib.ListN.{length, getD, drop, replicate, length-append, length-replicate, getD-replicate, List·getD-append}
 use lib.Seq.{getD-append-add}
 use Rattle.tables.specs.Numbers.{kStored, numbersGood, nodeWords, infinity}
-use Rattle.tables.specs.Layout.{blockWords, nodeAt, nodeWord, tagWord, childPlace, pendingPlace}
+use Rattle.tables.specs.Layout.{blockWords, nodeAt, nodeWord, childPlace, pendingPlace}
 use Rattle.tables.specs.Header.{headerOf}
 use Rattle.tables.specs.Place.{inNode, Inside}
 use Rattle.tables.specs.Node.{imageWord, internalImage}
-use Rattle.tables.specs.Fresh.{freshHeader, headerImage, rootImage, dummyImage, freshBlock, freshRow, overFront}
+use Rattle.tables.specs.Fresh.{freshHeader, headerImage, rootImage, dummyImage, freshBlock, overFront}
 use Rattle.tables.specs.declared.header.Header.{Header}
-use Rattle.tables.proofs.Limits.{NumberLimits, number-limits, Limits}
+use Rattle.tables.proofs.Limits.{NumberLimits, number-limits}
 use Rattle.tables.proofs.Lists.{length-listed}
 use Rattle.tables.proofs.Making.{fresh-length}
 use Rattle.tables.proofs.Places.{place-below}
@@ -24,15 +23,13 @@ use Rattle.process.specs.Process.{idle}
 use Rattle.history.specs.View.{In}
 use Rattle.history.specs.View as view
 use Rattle.history.specs.Fresh.{Fresh}
-use Rattle.history.specs.Run.{Run}
 use Rattle.history.proofs.Within.{within-at}
 use Rattle.history.proofs.Rest.{Rest, rest-sound, fresh-rest}
 use Rattle.link.specs.Tables.{tablesOf}
 use Rattle.link.specs.Events.{Event, State, taken, stateAt, freshState}
 use Rattle.link.proofs.Writes.{Fit}
 use Rattle.link.proofs.Images.{image-tag, image-key, image-child, image-pend}
-use Rattle.link.proofs.Moments.{Now}
-use Rattle.link.proofs.Reached.{Good, Doing, idles}
+use Rattle.link.proofs.Reached.{Good, idles}
 
 -- a state at rest: all idle, no record in use, all pendings 0, shape, one parent, search order
 pub record Rested (s : State) : Type 0 where

@@ -1,25 +1,24 @@
 -- The nodes that 4 draws, as the history sees them: a leaf with the key put in or taken out, or a sprout.
-use Prim.Native.Nat.{ℕ, zero, suc, _+_, _*_, _-_, _≤_, _<_}
-use mathlib.Core.Path.{_≡_, refl, sym, ap, _∙_}
-use mathlib.Core.Bool.{Bool, true, false}
+use Prim.Native.Nat.{ℕ, suc, _+_, _*_, _-_, _≤_, _<_}
+use mathlib.Core.Path.{_≡_, refl, ap, _∙_}
+use mathlib.Core.Bool.{true, false}
 use mathlib.Core.List.{List, [], _∷_, List·Memᴰ}
 use native.Mathlib.Omega.{arith}
-use lib.Dec.{ltb, eqb}
+use lib.Dec.{eqb}
 use borrow.Author.Tests.{eq-eqb, ne-eqb}
 use lib.ListN.{length, getD, drop}
 use lib.Seq.{getD-drop}
-use Rattle.tables.specs.Choice.{pick, both}
+use Rattle.tables.specs.Choice.{pick}
 use Rattle.tables.specs.Numbers.{nodeWords}
 use Rattle.tables.specs.Layout.{nodeWord, tagWord, childPlace, pendingPlace}
-use Rattle.tables.specs.Place.{inNode, Inside}
 use Rattle.tables.specs.Node.{leafImage}
 use Rattle.tables.specs.Keys.{keysOf, putIn, takenOut, keyArray}
 use Rattle.tables.specs.declared.header.Header.{Header}
 use Rattle.tables.proofs.Picks.{pick-true, pick-false}
 use Rattle.draws.specs.declared.Job.{Job}
-use Rattle.draws.specs.Draw.{newNode, newRecord, sprouts, neededNodes, newKeys, newCount, leafDrawn, largest, sproutDrawn, nodesDrawn, replaceDrawn}
+use Rattle.draws.specs.Draw.{newNode, newRecord, sprouts, neededNodes, newKeys, newCount, largest, sproutDrawn, nodesDrawn, replaceDrawn}
 use Rattle.draws.proofs.After.{Room, replace-new, leaf-same, sprout-stem, sprout-leaf, stemImage}
-use Rattle.history.specs.View.{View, In, keys, keys-from, within}
+use Rattle.history.specs.View.{In, keys, within}
 use Rattle.history.specs.Keys.{put-in, take-out}
 use Rattle.history.specs.Change.{NewLeaf, Sprout}
 use Rattle.history.proofs.Within.{within-at, keys-within}

@@ -1,28 +1,29 @@
 -- The two calls on a state whose block fits its header: which are refused, and what the others do.
-use Prim.Native.Nat.{ℕ, zero, suc, _+_, _*_, _-_, _≤_, _<_}
-use mathlib.Core.Path.{_≡_, refl, sym, ap, _∙_, subst}
-use mathlib.Core.Logic.{_≢_, _⊎_, inl, inr}
-use mathlib.Core.Bool.{Bool, true, false, not}
+use Prim.Native.Nat.{ℕ, _+_, _*_, _-_, _≤_}
+use mathlib.Core.Path.{_≡_, refl, sym, _∙_}
+use mathlib.Core.Logic.{_≢_}
+use mathlib.Core.Bool.{Bool, true, false}
 use mathlib.Core.List.{List}
 use native.Mathlib.Omega.{arith}
 use native.Mathlib.Decide.{ℕ-discrete}
-use lib.Dec.{ltb, leb, eqb}
-use lib.ListN.{length, getD, set}
-use borrow.Author.Tests.{lt-ltb, le-ltb, le-leb, eq-eqb, ne-eqb, eqb-true, eqb-false, not-true, not-false}
-use Rattle.tables.specs.Choice.{pick, both, within, decide}
+use lib.Dec.{ltb}
+use lib.ListN.{length}
+use borrow.Author.Tests.{le-ltb, le-leb, eq-eqb, ne-eqb}
+use Rattle.tables.specs.Choice.{pick, within}
 use Rattle.tables.specs.Numbers.{infinity, numbersGood}
 use Rattle.tables.specs.Layout.{blockWords}
-use Rattle.tables.specs.Refusal.{refusal}
-use Rattle.tables.specs.declared.numbers.Refusal.the-variants.{TooShort, Damaged}
+use Rattle.tables.specs.Refusal.{numberOf, refusal}
 use Rattle.tables.specs.Header.{headerOf, headerGood}
 use Rattle.tables.specs.declared.header.Header.{Header}
 use Rattle.tables.proofs.Picks.{within-low, within-high}
 use Rattle.tables.proofs.Limits.{Limits, limits}
 use Rattle.process.specs.declared.Process.{Process}
 use Rattle.process.specs.Process.{startedAs}
-use Rattle.points.specs.Touch.{Out}
-use Rattle.points.specs.Step.{soundStep, noProcess, stepRefused, stepDone, started, startRefused}
-use Rattle.points.specs.declared.start.StartAnswer.the-variants.{Accepted}
+use Rattle.process.specs.declared.StepAnswer.the-variants.{Refused}
+use Rattle.points.specs.Rows.{rowOf}
+use Rattle.points.specs.Step.{soundStep}
+use Rattle.points.specs.declared.start.StartAnswer.the-variants as starts
+use Rattle.index.specs.Calls.{withRecord, StartOut, startOut, startCall, StepOut, stepOut, stepBy, stepCall}
 use Rattle.history.specs.View.{In}
 use Rattle.link.specs.Events.{State, taken, startIn, stepIn}
 use Rattle.link.proofs.Writes.{Fit}
@@ -36,6 +37,30 @@ limits-good {h} l =
     (both-is (within-is 1 (h .processes) 32 (l .numbers .processes-low) (l .numbers .processes-high))
     (both-is (within-is (2 * h .k + 1) (h .nodes) 4096 (l .numbers .nodes-low) (l .numbers .nodes-high)) (within-is 1 (h .records) 4096 (l .numbers .records-low) (l .numbers .records-high)))))
     (both-is (within-is (2 * h .k + 1) (h .nodesused) (h .nodes) (l .used-low) (l .used-high)) (le-leb (h .recordsused) (h .records) (l .drawn-high)))
+
+-- what the calls leave: a step refused, or done; a start refused, or accepted
+abbrev pub stepRefusedIn : State → ℕ → StepOut
+stepRefusedIn s r = stepOut (Refused (refusal r)) (s .block) (s .row)
+
+abbrev pub stepDoneIn : State → ℕ → StepOut
+stepDoneIn s n = stepBy (s .row) n (rowOf (s .block) (headerOf (s .block)) n (taken s n))
+
+abbrev pub startRefusedIn : State → ℕ → StartOut
+startRefusedIn s r = startOut (starts.Refused (refusal r)) (s .row)
+
+abbrev pub startDoneIn : State → ℕ → ℕ → ℕ → StartOut
+startDoneIn s n operation key = startOut starts.Accepted (withRecord (s .row) n (startedAs operation key))
+
+-- the state with another block, and the record of one process put back
+abbrev pub putBack : State → List ℕ → ℕ → Process → State
+putBack s b n q = record { block = b; row = withRecord (s .row) n q }
+
+-- the state that a call leaves
+abbrev pub stepped-to : StepOut → State
+stepped-to o = record { block = o .block; row = o .row }
+
+abbrev pub started-to : State → StartOut → State
+started-to s o = record { block = s .block; row = o .row }
 
 module _ (s : State) (fit : Fit (headerOf (s .block)) (s .block)) (rows : headerOf (s .block) .processes ≤ length (s .row)) where
   abbrev b : List ℕ
@@ -58,12 +83,12 @@ module _ (s : State) (fit : Fit (headerOf (s .block)) (s .block)) (rows : header
 
   -- how a step goes
   pub data Step (n : ℕ) : Type 0 where
-    unknown : ¬ In (h .processes) n → stepIn s n ≡ stepRefused b (taken s n) 4 → Step n
-    rests : In (h .processes) n → taken s n .operation ≡ 0 → stepIn s n ≡ stepRefused b (taken s n) 8 → Step n
-    works : In (h .processes) n → taken s n .operation ≢ 0 → (soundStep b h n (taken s n) ≡ true → stepIn s n ≡ stepDone b h n (taken s n)) → Step n
+    unknown : ¬ In (h .processes) n → stepIn s n ≡ stepRefusedIn s 4 → Step n
+    rests : In (h .processes) n → taken s n .operation ≡ 0 → stepIn s n ≡ stepRefusedIn s 8 → Step n
+    works : In (h .processes) n → taken s n .operation ≢ 0 → (soundStep b h n (taken s n) ≡ true → stepIn s n ≡ stepDoneIn s n) → Step n
 
   pub step-goes : (n : ℕ) → Step n
-  unfolding pick
+  unfolding pick stepCall
   step-goes n = go (within 1 n (h .processes)) refl (ℕ-discrete (taken s n .operation) 0)
     where
       place : within 1 n (h .processes) ≡ true → In (h .processes) n
@@ -79,20 +104,20 @@ module _ (s : State) (fit : Fit (headerOf (s .block)) (s .block)) (rows : header
 
   -- how a start goes
   pub data Start (n operation key : ℕ) : Type 0 where
-    refused : (r : ℕ) → refusal r ≢ Damaged → refusal r ≢ TooShort → startIn s n operation key ≡ startRefused (taken s n) r → Start n operation key
+    refused : (r : ℕ) → 4 ≤ numberOf (refusal r) → numberOf (refusal r) ≤ 7 → startIn s n operation key ≡ startRefusedIn s r → Start n operation key
     accepted : In (h .processes) n → 1 ≤ operation → operation ≤ 3 → key ≢ infinity → taken s n .operation ≡ 0
-        → startIn s n operation key ≡ started Accepted (startedAs operation key) → Start n operation key
+        → startIn s n operation key ≡ startDoneIn s n operation key → Start n operation key
 
   pub start-goes : (n operation key : ℕ) → Start n operation key
-  unfolding pick
+  unfolding pick startCall
   start-goes n operation key =
       go (within 1 n (h .processes)) refl (within 1 operation 3) refl (ℕ-discrete key infinity) (ℕ-discrete (taken s n .operation) 0)
     where
       go : (t : Bool) → within 1 n (h .processes) ≡ t → (u : Bool) → within 1 operation 3 ≡ u → Dec (key ≡ infinity) → Dec (taken s n .operation ≡ 0) → Start n operation key
-      go false e u f d z = refused 4 (λ x. let v : _≡_ {A = ℕ} 0 1 = cc in omega arith) (λ x. let v : _≡_ {A = ℕ} 0 1 = cc in omega arith) (rw (t₁, t₂, t₃, t₄, e) refl)
-      go true e false f d z = refused 5 (λ x. let v : _≡_ {A = ℕ} 0 1 = cc in omega arith) (λ x. let v : _≡_ {A = ℕ} 0 1 = cc in omega arith) (rw (t₁, t₂, t₃, t₄, e, f) refl)
-      go true e true f (yes d) z = refused 6 (λ x. let v : _≡_ {A = ℕ} 0 1 = cc in omega arith) (λ x. let v : _≡_ {A = ℕ} 0 1 = cc in omega arith) (rw (t₁, t₂, t₃, t₄, e, f, eq-eqb key infinity d) refl)
-      go true e true f (no d) (no z) = refused 7 (λ x. let v : _≡_ {A = ℕ} 0 1 = cc in omega arith) (λ x. let v : _≡_ {A = ℕ} 0 1 = cc in omega arith) (rw (t₁, t₂, t₃, t₄, e, f, ne-eqb key infinity d, ne-eqb (taken s n .operation) 0 z) refl)
+      go false e u f d z = refused 4 (omega arith) (omega arith) (rw (t₁, t₂, t₃, t₄, e) refl)
+      go true e false f d z = refused 5 (omega arith) (omega arith) (rw (t₁, t₂, t₃, t₄, e, f) refl)
+      go true e true f (yes d) z = refused 6 (omega arith) (omega arith) (rw (t₁, t₂, t₃, t₄, e, f, eq-eqb key infinity d) refl)
+      go true e true f (no d) (no z) = refused 7 (omega arith) (omega arith) (rw (t₁, t₂, t₃, t₄, e, f, ne-eqb key infinity d, ne-eqb (taken s n .operation) 0 z) refl)
       go true e true f (no d) (yes z) =
           accepted (record { low = within-low 1 n (h .processes) e; high = within-high 1 n (h .processes) e }) (within-low 1 operation 3 f) (within-high 1 operation 3 f) d z
           (rw (t₁, t₂, t₃, t₄, e, f, ne-eqb key infinity d, eq-eqb (taken s n .operation) 0 z) refl)

@@ -1,8 +1,8 @@
 -- From one moment to the next: what all share, what other processes know, what the one that moved knows.
-use Prim.Native.Nat.{ℕ, zero, suc, _+_, _*_, _-_, _≤_, _<_}
-use mathlib.Core.Path.{_≡_, refl, sym, ap, _∙_, subst}
+use Prim.Native.Nat.{ℕ, zero, suc, _-_, _≤_, _<_}
+use mathlib.Core.Path.{_≡_, refl, sym, ap, subst}
 use mathlib.Core.Logic.{_≢_, _⊎_, inl, inr}
-use mathlib.Core.Bool.{Bool, true, false}
+use mathlib.Core.Bool.{Bool}
 use mathlib.Core.List.{List}
 use native.Mathlib.Omega.{arith}
 use lib.Count.{ones}
@@ -10,10 +10,9 @@ use Rattle.tables.specs.Layout.{recordWord, processField}
 use Rattle.tables.specs.Pending.{wordOf}
 use Rattle.tables.specs.declared.header.Header.{Header}
 use Rattle.process.specs.declared.Process.{Process}
-use Rattle.process.specs.declared.Answer.{Answer}
 use Rattle.process.specs.declared.Stepped.{Stepped}
 use Rattle.process.specs.Process.{idle, withSteps}
-use Rattle.process.specs.Answer.{stepsUp, goingOn, endingOf}
+use Rattle.process.specs.Answer.{stepsUp}
 use Rattle.history.specs.View.{In}
 use Rattle.history.specs.Shared.{Shared}
 use Rattle.history.specs.Run.{Step, Run}

@@ -1,28 +1,25 @@
 -- The damage checks hold of what the history says is there: nodes, pendings, records, what is below a node.
-use Prim.Native.Nat.{ℕ, zero, suc, _+_, _*_, _-_, _/_, _%_, _≤_, _<_}
-use mathlib.Core.Path.{_≡_, refl, sym, ap, _∙_, subst}
-use mathlib.Core.Logic.{_≢_, _⊎_, inl, inr}
-use mathlib.Core.Bool.{Bool, true, false}
+use Prim.Native.Nat.{ℕ, _+_, _*_, _-_, _≤_, _<_}
+use mathlib.Core.Path.{_≡_, refl, ap, _∙_}
+use mathlib.Core.Bool.{Bool, true}
 use mathlib.Core.List.{List}
 use native.Mathlib.Omega.{arith}
-use native.Mathlib.Decide.{ℕ-discrete}
-use lib.Dec.{ltb, leb, eqb}
-use borrow.Author.Tests.{lt-ltb, le-ltb, le-leb, eq-eqb, ne-eqb}
+use lib.Dec.{leb}
+use borrow.Author.Tests.{lt-ltb, le-ltb, le-leb, eq-eqb}
 use Rattle.tables.specs.Choice.{pick, both, within}
 use Rattle.tables.specs.Layout.{tagWord, recordWord, lField, pField, thirdField, expectedField, processField, operationField, keyField}
-use Rattle.tables.specs.Pending.{wordOf, pendingOf, pendingOfKind, recordOfKind, pendingGood}
+use Rattle.tables.specs.Pending.{wordOf, pendingOf, recordOfKind, pendingGood}
 use Rattle.tables.specs.Node.{kinOfTag, kinOf, belowOf, isNode, isInternal, isLeaf}
 use Rattle.tables.specs.declared.header.Header.{Header}
 use Rattle.tables.specs.declared.node.Kin.the-variants.{Leaf, Internal}
-use Rattle.tables.specs.declared.node.Child.the-variants.{Node, Damaged}
+use Rattle.tables.specs.declared.node.Child.the-variants.{Node}
 use Rattle.tables.specs.declared.pending.Pending.{Pending}
 use Rattle.tables.specs.declared.pending.Pending.the-variants.{Clean, Replace, Prune, Mark}
-use Rattle.tables.proofs.OneToOne.{pending-word, word-pending}
-use Rattle.process.specs.Process.{isCleanOf}
-use Rattle.damage.specs.Helped.{ownerGood, thirdGood, placesGood, expectedGood, recordGood}
+use Rattle.tables.proofs.OneToOne.{pending-word}
+use Rattle.damage.specs.Helped.{ownerGood, expectedGood, recordGood}
 use Rattle.history.specs.View.{In, infinity}
 use Rattle.history.specs.Shared.{Desc, Shared}
-use Rattle.history.proofs.Invariant.{Word, clean, replacing, pruning, marked, Origin, never, replace-over, prune-over, sprout-born, Made, put, out, sprouted, Good, Sound}
+use Rattle.history.proofs.Invariant.{Word, clean, replacing, pruning, marked, Origin, never, replace-over, prune-over, sprout-born, Made, put, out, sprouted, Sound}
 use Rattle.history.proofs.Touch.{p-used, gp-used, new-used}
 use Rattle.link.specs.Tables.{tablesOf}
 use Rattle.link.proofs.Writes.{Fit}
@@ -80,7 +77,7 @@ module _ (b : List ℕ) (h : Header) where
   unfolding pick
   kin-leaf n l = rw (lt-ltb (tagWord b h n) (h .k) l) refl
 
-  kin-is : (n : ℕ) → In (h .nodesused) n → tagWord b h n ≤ h .k → kinOf b h n ≡ Node (kinOfTag h n (tagWord b h n))
+  pub kin-is : (n : ℕ) → In (h .nodesused) n → tagWord b h n ≤ h .k → kinOf b h n ≡ Node (kinOfTag h n (tagWord b h n))
   unfolding pick
   kin-is n i l = rw (good-tag n i l) refl
 

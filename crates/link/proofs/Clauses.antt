@@ -1,45 +1,38 @@
 -- Over all lists of events from a state at rest: never damaged, search order, and what changes child words and the set.
-use Prim.Native.Nat.{ℕ, zero, suc, _+_, _*_, _-_, _≤_, _<_}
+use Prim.Native.Nat.{ℕ, zero, suc, _+_, _-_, _≤_}
 use mathlib.Core.Path.{_≡_, refl, sym, ap, _∙_, subst}
 use mathlib.Core.Logic.{_≢_, _⊎_, inl, inr}
-use mathlib.Core.Bool.{Bool, true, false}
 use mathlib.Core.List.{List, List·Memᴰ}
 use native.Mathlib.Omega.{arith}
-use native.Mathlib.Decide.{ℕ-discrete}
-use Rattle.tables.specs.Refusal.{refusal}
+use Rattle.tables.specs.Refusal.{numberOf, refusal}
 use Rattle.tables.specs.declared.header.Header.{Header}
 use Rattle.tables.specs.declared.numbers.Refusal.{Refusal}
-use Rattle.tables.specs.declared.numbers.Refusal.the-variants.{TooShort, Damaged, NoSuchProcess, Idle}
+use Rattle.tables.specs.declared.numbers.Refusal.the-variants.{NoSuchProcess, Idle}
 use Rattle.process.specs.declared.Process.{Process}
 use Rattle.process.specs.declared.Answer.{Answer}
-use Rattle.process.specs.declared.StepAnswer.{StepAnswer}
 use Rattle.process.specs.declared.StepAnswer.the-variants.{GoesOn, Ended, Refused}
 use Rattle.process.specs.declared.Stepped.{Stepped}
-use Rattle.process.specs.Answer.{stepsUp, goingOn, endingOf}
-use Rattle.points.specs.Touch.{Out}
+use Rattle.process.specs.Answer.{stepsUp}
 use Rattle.points.specs.Rows.{rowOf}
-use Rattle.points.specs.Step.{stepDone, stepRefused}
 use Rattle.points.specs.declared.start.StartAnswer.the-variants as start-answers
-use Rattle.points.specs.declared.start.Started.{Started}
-use Rattle.history.specs.View.{In, route, keys, Reach, Below, Holds}
+use Rattle.index.specs.Calls.{StartOut, StepOut}
+use Rattle.history.specs.View.{In, route, keys, Reach, Below}
 use Rattle.history.specs.Shared.{Shared}
-use Rattle.history.specs.Effects.{SameSet, SetMoves}
+use Rattle.history.specs.Effects.{SameSet, SetMoves, Grown, Moved}
 use Rattle.history.specs.Run.{Step, Run, SwapAt, step-swaps}
 use Rattle.history.proofs.Invariant.{Sound}
 use Rattle.history.proofs.SearchOrder.{figure-3}
-use Rattle.history.proofs.ChildWords.{Moved, kids-same, swap-moves}
+use Rattle.history.proofs.ChildWords.{kids-same, swap-moves}
 use Rattle.history.proofs.SetLaws.{step-set-same, step-set-swap}
-use Rattle.history.proofs.Lasting.{Grown}
 use Rattle.history.proofs.Walking.{Listing, listing}
 use Rattle.history.proofs.Runs.{sound-at, grown-at}
 use Rattle.history.proofs.Swapping.{SwapBetween, one-swap}
-use Rattle.link.specs.Tables.{tablesOf}
-use Rattle.link.specs.Events.{Event, start, step, State, taken, startIn, stepIn, eventAt, stateAt, blockAt, headerAt, Proper, sinceAt}
+use Rattle.link.specs.Events.{Event, step, State, taken, startIn, stepIn, eventAt, stateAt, blockAt, headerAt, Proper, sinceAt}
 use Rattle.link.specs.Swaps.{ChildSwap}
-use Rattle.link.proofs.Moments.{tables, Now, Busy, Why, Follows, already, afterwards, answers, Turn, k-low}
+use Rattle.link.proofs.Moments.{tables, Busy, Why, Follows, already, afterwards, answers, k-low}
 use Rattle.link.proofs.Stepping.{turn, step-sound}
 use Rattle.link.proofs.Calls as calls
-use Rattle.link.proofs.Reached.{Good, Doing, idles, works, Kind, no-swap, swap-of, Move, move, good-always}
+use Rattle.link.proofs.Reached.{Good, Doing, idles, works, Kind, no-swap, swap-of, move, good-always}
 use Rattle.link.proofs.Beginning.{Rested, good-rest}
 
 -- the step from moment m, with the k of the whole run
@@ -112,8 +105,8 @@ module _ {s : State} {es : List Event} (reached : Reached s es) where
   pub sound : (m : ℕ) → Sound k (S m)
   sound m = sound-at hk (run m) sound₀ m (omega arith)
 
-  -- 1. No step is refused but for an unknown or an idle process; no start as damaged or too short.
-  pub step-refused : (m n : ℕ) (e : Refusal) → stepIn (W m) n .stepped .answer ≡ Refused e → (e ≡ NoSuchProcess) ⊎ (e ≡ Idle)
+  -- 1. No step is refused but for an unknown or an idle process; no start but by 4 to 7.
+  pub step-refused : (m n : ℕ) (e : Refusal) → stepIn (W m) n .answer ≡ Refused e → (e ≡ NoSuchProcess) ⊎ (e ≡ Idle)
   step-refused m n e z = go (calls.step-goes (W m) (good m .now .fit) (good m .rows) n)
     where
       same : (d f : Refusal) → Refused d ≡ Refused f → f ≡ d
@@ -123,32 +116,31 @@ module _ {s : State} {es : List Event} (reached : Reached s es) where
       busy d (idles x) = absurd (d x)
       busy d (works y) = y
 
-      says : (t : Stepped) → stepIn (W m) n .stepped ≡ t → (t .answer ≡ GoesOn) ⊎ ((a : Answer) × (t .answer ≡ Ended a (stepsUp (taken (W m) n .steps))) × Why (hs m .k) S (sinceAt s es n m) m n (taken (W m) n) a) → ⊥
-      says t x (inl g) = let v : GoesOn ≡ Refused e = sym g ∙ ap (λ (u : Stepped). u .answer) (sym x) ∙ z in let w : _≡_ {A = ℕ} 0 1 = cc in omega arith
+      says : (t : Stepped) → stepIn (W m) n .answer ≡ t .answer → (t .answer ≡ GoesOn) ⊎ ((a : Answer) × (t .answer ≡ Ended a (stepsUp (taken (W m) n .steps))) × Why (hs m .k) S (sinceAt s es n m) m n (taken (W m) n) a) → ⊥
+      says t x (inl g) = let v : GoesOn ≡ Refused e = sym g ∙ sym x ∙ z in let w : _≡_ {A = ℕ} 0 1 = cc in omega arith
       says t x (inr g) =
-          let v : Ended (g .0) (stepsUp (taken (W m) n .steps)) ≡ Refused e = sym (g .1) ∙ ap (λ (u : Stepped). u .answer) (sym x) ∙ z in
+          let v : Ended (g .0) (stepsUp (taken (W m) n .steps)) ≡ Refused e = sym (g .1) ∙ sym x ∙ z in
           let w : _≡_ {A = ℕ} 0 1 = cc in omega arith
 
       go : calls.Step (W m) (good m .now .fit) (good m .rows) n → (e ≡ NoSuchProcess) ⊎ (e ≡ Idle)
-      go (calls.unknown d x) = inl (same NoSuchProcess e (sym (ap (λ (o : Out). o .stepped .answer) x) ∙ z))
-      go (calls.rests u d x) = inr (same Idle e (sym (ap (λ (o : Out). o .stepped .answer) x) ∙ z))
+      go (calls.unknown d x) = inl (same NoSuchProcess e (sym (ap (λ (o : StepOut). o .answer) x) ∙ z))
+      go (calls.rests u d x) = inr (same Idle e (sym (ap (λ (o : StepOut). o .answer) x) ∙ z))
       go (calls.works u d f) =
           let y = busy d (good m .each n u) in
-          absurd (says (rowOf (bs m) (hs m) n (taken (W m) n) .stepped) (ap (λ (o : Out). o .stepped) (f (step-sound (good m .now) (taken (W m) n) y)))
+          absurd (says (rowOf (bs m) (hs m) n (taken (W m) n) .stepped) (ap (λ (o : StepOut). o .answer) (f (step-sound (good m .now) (taken (W m) n) y)))
           (stepped-says (turn (good m .now) (taken (W m) n) y .follows)))
 
-  pub start-refused : (m n operation key : ℕ) (e : Refusal) → startIn (W m) n operation key .answer ≡ start-answers.Refused e → (e ≢ Damaged) × (e ≢ TooShort)
+  pub start-refused : (m n operation key : ℕ) (e : Refusal) → startIn (W m) n operation key .answer ≡ start-answers.Refused e → (4 ≤ numberOf e) × (numberOf e ≤ 7)
   start-refused m n operation key e z = go (calls.start-goes (W m) (good m .now .fit) (good m .rows) n operation key)
     where
-      same : (d f : Refusal) → start-answers.Refused d ≡ start-answers.Refused f → f ≡ d
+      same : (d f : Refusal) → start-answers.Refused d ≡ start-answers.Refused f → d ≡ f
       same d f x = cc
 
-      go : calls.Start (W m) (good m .now .fit) (good m .rows) n operation key → (e ≢ Damaged) × (e ≢ TooShort)
+      go : calls.Start (W m) (good m .now .fit) (good m .rows) n operation key → (4 ≤ numberOf e) × (numberOf e ≤ 7)
       go (calls.refused r d f x) =
-          let v : e ≡ refusal r = same (refusal r) e (sym (ap (λ (o : Started). o .answer) x) ∙ z) in
-          ((λ a. d (sym v ∙ a)), (λ a. f (sym v ∙ a)))
+          subst (λ (a : Refusal). (4 ≤ numberOf a) × (numberOf a ≤ 7)) (same (refusal r) e (sym (ap (λ (o : StartOut). o .answer) x) ∙ z)) (d, f)
       go (calls.accepted u a c d f x) =
-          let v : start-answers.Accepted ≡ start-answers.Refused e = sym (ap (λ (o : Started). o .answer) x) ∙ z in
+          let v : start-answers.Accepted ≡ start-answers.Refused e = sym (ap (λ (o : StartOut). o .answer) x) ∙ z in
           let w : _≡_ {A = ℕ} 0 1 = cc in absurd (omega arith)
 
   -- 2. Figure 3: a key in a leaf below child i of an internal node of the tree goes by child i

@@ -1,37 +1,24 @@
 -- Rows 4 and 5 as the history sees them: the words after a draw are those of a draw of the history.
-use Prim.Native.Nat.{ℕ, zero, suc, _+_, _*_, _-_, _≤_, _<_}
-use mathlib.Core.Path.{_≡_, refl, sym, ap, _∙_}
-use mathlib.Core.Bool.{Bool, true, false}
-use mathlib.Core.List.{List, [], _∷_, List·Memᴰ}
+use Prim.Native.Nat.{ℕ, _+_, _*_, _-_, _≤_, _<_}
+use mathlib.Core.Path.{_≡_, refl, sym}
+use mathlib.Core.List.{List}
 use native.Mathlib.Omega.{arith}
-use native.Mathlib.Nat.{add-zero}
-use lib.Dec.{ltb, eqb}
-use borrow.Author.Tests.{eqb-true, eqb-false, eq-eqb, ne-eqb, le-leb}
-use lib.ListN.{length, getD, drop}
-use lib.Seq.{getD-drop}
-use Rattle.tables.specs.Choice.{pick, both}
+use lib.ListN.{length, getD}
 use Rattle.tables.specs.Numbers.{nodeWords, recordWords}
-use Rattle.tables.specs.Layout.{blockWords, depthOf, nodeAt, nodeWord, recordWord, stackWord, tagWord, childPlace, pendingPlace, pendingWord}
+use Rattle.tables.specs.Layout.{blockWords, nodeWord, recordWord, stackWord, childPlace, pendingPlace, pendingWord}
 use Rattle.tables.specs.Header.{headerOf, headerFrom}
-use Rattle.tables.specs.Place.{Place, inHeader, inNode, inRecord, inStack, placeAt, OneOf, Inside}
-use Rattle.tables.specs.Keys.{keysOf, putIn, takenOut, keyArray}
+use Rattle.tables.specs.Place.{Place, inHeader, inNode, inRecord, inStack, placeAt, Inside}
 use Rattle.tables.specs.Pending.{replaceKind, pruneKind}
 use Rattle.tables.specs.declared.header.Header.{Header}
-use Rattle.tables.proofs.Picks.{both-1, both-2, pick-true, pick-false}
-use Rattle.tables.proofs.Limits.{Limits}
 use Rattle.draws.specs.declared.Job.{Job}
-use Rattle.draws.specs.Draw.{newNode, newRecord, putsIn, sprouts, neededNodes, newKeys, newCount, leafDrawn, largest, sproutDrawn, nodesDrawn, recordImage, committed, replaceDrawn, pruneDrawn}
-use Rattle.draws.proofs.After.{Room, committed-length, committed-other, committed-record, committed-flag, committed-header, nodes-length, nodes-other, replace-new, replace-other, replace-length, replace-header, leaf-same, sprout-stem, sprout-leaf, stemImage}
-use Rattle.history.specs.View.{View, In, keys, keys-from, within}
-use Rattle.history.specs.Keys.{put-in, take-out}
-use Rattle.history.specs.Shared.{Desc, Shared}
-use Rattle.history.specs.Change.{SwapPend, NewRecord, NewLeaf, Sprout, replace-words, prune-words}
-use Rattle.history.proofs.Within.{within-same, within-at, keys-within}
-use Rattle.history.proofs.Rows.{put-in-length, keys-length}
+use Rattle.draws.specs.Draw.{newNode, newRecord, neededNodes, nodesDrawn, recordImage, committed, replaceDrawn, pruneDrawn}
+use Rattle.draws.proofs.After.{Room, committed-length, committed-other, committed-record, committed-flag, committed-header, nodes-length, replace-other, replace-length, replace-header}
+use Rattle.history.specs.View.{In, within}
+use Rattle.history.specs.Shared.{Desc}
+use Rattle.history.specs.Change.{SwapPend, NewRecord, replace-words, prune-words}
+use Rattle.history.proofs.Within.{within-same}
 use Rattle.link.specs.Tables.{viewOf, descOf, tablesOf, stackOf}
 use Rattle.link.proofs.Writes.{Fit, stack-same}
-use Rattle.link.proofs.Keyed.{keys-are, put-are, take-are}
-use Rattle.link.proofs.Images.{image-tag, image-key, image-child, image-pend, array-at, row-from, take-out-shorter}
 
 -- the header after a draw of so many nodes
 abbrev pub drawnHeader : Header → ℕ → Header

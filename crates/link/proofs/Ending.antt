@@ -1,29 +1,27 @@
 -- Rows 8, 10 and 14: a flag is taken back, help ends, the stack is popped.
-use Prim.Native.Nat.{ℕ, zero, suc, _+_, _*_, _-_, _^_, _≤_, _<_}
+use Prim.Native.Nat.{ℕ, suc, _+_, _*_, _-_, _≤_, _<_}
 use mathlib.Core.Path.{_≡_, refl, sym, ap, _∙_, subst}
-use mathlib.Core.Logic.{_≢_, _⊎_, inl, inr}
+use mathlib.Core.Logic.{_≢_, inl, inr}
 use mathlib.Core.Bool.{Bool, true, false, not}
 use mathlib.Core.List.{List}
 use native.Mathlib.Omega.{arith}
 use native.Mathlib.Decide.{ℕ-discrete}
-use lib.Dec.{ltb, eqb}
+use lib.Dec.{eqb}
 use lib.ListN.{set}
 use borrow.Author.Tests.{eqb-true, eqb-false, eq-eqb, ne-eqb}
 use Rattle.tables.specs.Choice.{pick, both}
-use Rattle.tables.specs.Layout.{depthOf, nodeAt, stackAt, nodeWord, tagWord, pendingWord, recordWord, stackWord, pendingPlace, lField, pField, thirdField}
+use Rattle.tables.specs.Layout.{depthOf, nodeAt, stackAt, nodeWord, pendingWord, recordWord, stackWord, pendingPlace, pField, thirdField}
 use Rattle.tables.specs.Place.{inNode, inStack, Inside}
 use Rattle.tables.specs.Pending.{pendingOf, recordOfKind}
 use Rattle.tables.specs.declared.header.Header.{Header}
 use Rattle.tables.proofs.Places.{read-same, read-other}
 use Rattle.process.specs.declared.Process.{Process}
-use Rattle.process.specs.declared.Stepped.{Stepped}
-use Rattle.process.specs.Process.{withDepth, toTen, restartedOf}
+use Rattle.process.specs.Process.{withDepth, restartedOf}
 use Rattle.process.specs.Answer.{answer, goingOn, endingOf}
-use Rattle.points.specs.Touch.{touched}
-use Rattle.points.specs.Help.{topOf, helpEnded, emptyEnd, topGood}
+use Rattle.points.specs.Help.{topOf, helpEnded, topGood}
 use Rattle.points.specs.Rows.{seenGood, unflag, unflagRow, popGood, underTop, row8, row10, row14, touch10}
 use Rattle.history.specs.View.{In}
-use Rattle.history.specs.Shared.{Shared, Done, Failed, Stands, stands-replace, stands-prune}
+use Rattle.history.specs.Shared.{Shared, Failed, Stands, stands-replace, stands-prune}
 use Rattle.history.specs.Change.{SwapPend, unflag-replace, unflag-prune}
 use Rattle.history.specs.Effects.{swaps}
 use Rattle.history.specs.Run.{Step, changes, rests, step-swaps}
@@ -33,10 +31,10 @@ use Rattle.history.proofs.Stacks.{Stacked, stack-front}
 use Rattle.history.proofs.Helps.{Ends}
 use Rattle.history.proofs.Knows.{Mind, Owns, none-yet, owns, Serves, own-done}
 use Rattle.link.specs.Tables.{viewOf, tablesOf, stackOf}
-use Rattle.link.proofs.Writes.{Fit, Writes, writes-none, writes-node, writes-stack, writes-tables, pend-swap, tables-same, stack-same, stack-over-node, stack-over-stack}
+use Rattle.link.proofs.Writes.{Writes, writes-none, writes-node, writes-stack, writes-tables, pend-swap, tables-same, stack-same, stack-over-node, stack-over-stack}
 use Rattle.link.proofs.Checks.{both-is, word-names, pending-good, kind-good}
-use Rattle.link.proofs.Minds.{mindOf, HeldBy, CountersBy, stack-room}
-use Rattle.link.proofs.Moments.{tables, Now, Busy, did, Follows, already, answers, Swapper, nobody, Turn, k-low, now-sound, quiet, restarts}
+use Rattle.link.proofs.Minds.{mindOf, stack-room}
+use Rattle.link.proofs.Moments.{tables, Now, Busy, did, Follows, answers, nobody, Turn, k-low, now-sound, quiet, restarts}
 use Rattle.link.proofs.Seeing.{counters-help, Loose, free, below as at-bottom, owns-loose, to-top}
 use Rattle.link.proofs.Searching.{known}
 use Rattle.link.proofs.Serving.{written, stacks-node, stack-at}

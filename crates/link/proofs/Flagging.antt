@@ -1,21 +1,19 @@
 -- Rows 4 and 5: the compare on p's or gp's pending, the draw, the answer full, or help.
-use Prim.Native.Nat.{ℕ, zero, suc, _+_, _*_, _-_, _^_, _≤_, _<_}
+use Prim.Native.Nat.{ℕ, _+_, _-_, _≤_, _<_}
 use mathlib.Core.Path.{_≡_, refl, sym, ap, _∙_, subst}
-use mathlib.Core.Logic.{_≢_, _⊎_, inl, inr}
-use mathlib.Core.Bool.{Bool, true, false, not}
-use mathlib.Core.List.{List, List·Memᴰ}
+use mathlib.Core.Logic.{_≢_}
+use mathlib.Core.Bool.{Bool, true, false}
+use mathlib.Core.List.{List}
 use native.Mathlib.Omega.{arith}
-use native.Mathlib.Decide.{ℕ-discrete, decLe}
-use lib.Dec.{ltb, eqb}
-use borrow.Author.Tests.{eqb-true, eqb-false, eq-eqb, ne-eqb}
-use Rattle.tables.specs.Choice.{pick, both}
+use native.Mathlib.Decide.{decLe}
+use borrow.Author.Tests.{eqb-true, eq-eqb, ne-eqb}
+use Rattle.tables.specs.Choice.{pick, both, either}
 use Rattle.tables.specs.Layout.{tagWord, pendingWord, recordWord, processField, operationField, keyField}
 use Rattle.tables.specs.Pending.{wordOf, pendingOf}
 use Rattle.tables.specs.Node.{kinOf, isNode}
 use Rattle.tables.specs.Keys.{keysOf, rises, holds}
 use Rattle.tables.specs.declared.header.Header.{Header}
 use Rattle.tables.specs.declared.node.Kin.{Kin}
-use Rattle.tables.specs.declared.node.Kin.the-variants.{Leaf, Internal}
 use Rattle.tables.specs.declared.pending.Pending.{Pending}
 use Rattle.tables.specs.declared.pending.Pending.the-variants.{Clean, Replace, Prune, Mark}
 use Rattle.tables.proofs.Picks.{both-1, both-2}
@@ -23,32 +21,30 @@ use Rattle.process.specs.declared.Process.{Process}
 use Rattle.process.specs.declared.Stepped.{Stepped}
 use Rattle.process.specs.Process.{withOwn, toSix, toNine}
 use Rattle.process.specs.Answer.{answer, goingOn, endingOf}
-use Rattle.damage.specs.Fields.{either}
 use Rattle.draws.specs.declared.Job.{Job}
 use Rattle.draws.specs.Draw.{newNode, newRecord, roomFor, sprouts, neededNodes, recordImage, replaceDrawn, pruneDrawn}
 use Rattle.draws.proofs.After.{Room, room-is}
 use Rattle.points.specs.Touch.{seenBy, succeeds}
 use Rattle.points.specs.Help.{topOf, helping, helpGood}
-use Rattle.points.specs.Rows.{seenGood, kinAt, jobOf, flagging, flagGood, touch4, touch5, heldGood, leafGood4, room4, row4, row5}
+use Rattle.points.specs.Rows.{seenGood, kinAt, jobOf, flagGood, touch4, touch5, heldGood, leafGood4, room4, row4, row5}
 use Rattle.history.specs.View.{In, infinity, keys}
-use Rattle.history.specs.Shared.{Desc, Shared}
-use Rattle.history.specs.Change.{draw-replace, draw-prune, replace-words, prune-words}
+use Rattle.history.specs.Shared.{Shared}
+use Rattle.history.specs.Change.{draw-replace, draw-prune}
 use Rattle.history.specs.Effects.{swaps}
 use Rattle.history.specs.Run.{Step, changes, step-swaps}
 use Rattle.history.proofs.Invariant.{Sound}
 use Rattle.history.proofs.Lasting.{grown}
-use Rattle.history.proofs.Descent.{Read, read-now}
+use Rattle.history.proofs.Descent.{read-now}
 use Rattle.history.proofs.Knows.{Mind, Job as Task, to-put, to-take, Replaces, Prunes}
 use Rattle.history.proofs.Drawing.{Words, one-more, one-less, sprouts as sprouting, draws-replace, draws-prune, own-replace, own-prune}
-use Rattle.link.specs.Tables.{viewOf, tablesOf, stackOf}
-use Rattle.link.proofs.Writes.{Fit}
+use Rattle.link.specs.Tables.{viewOf, tablesOf}
 use Rattle.link.proofs.Keyed.{keys-are, mem-holds, not-holds, sorted-rises}
 use Rattle.link.proofs.Draws.{drawnHeader, Drew, drew-prune, drew-replace, drew-fit, drew-swap, drew-stack, prune-record, replace-record}
 use Rattle.link.proofs.Born.{needs-one, needs-many, born-put, born-take, born-sprout}
 use Rattle.link.proofs.Checks.{both-is, word-names, kin-leaf, node-good, pending-good}
-use Rattle.link.proofs.Minds.{mindOf, Held, HeldBy, CountersBy, held-more}
-use Rattle.link.proofs.Moments.{tables, Now, Busy, no-room, Follows, already, afterwards, answers, nobody, Turn, k-low, now-sound, quiet}
-use Rattle.link.proofs.Seeing.{counters-help, held-helped}
+use Rattle.link.proofs.Minds.{mindOf, Held, held-more}
+use Rattle.link.proofs.Moments.{tables, Now, Busy, no-room, Follows, afterwards, answers, nobody, Turn, k-low, now-sound, quiet}
+use Rattle.link.proofs.Seeing.{counters-help}
 use Rattle.link.proofs.Searching.{known, helps-word}
 
 held-own : {k : ℕ} {s : Shared} {gp p l : ℕ} {pseen gseen : Pending} {helped other own : ℕ} (r : ℕ) → r ≤ s .records → Held k s gp p l pseen gseen helped other own

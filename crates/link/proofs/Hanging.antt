@@ -1,25 +1,23 @@
 -- Rows 6, 7, 12 and 13: a helper looks for a child, and swaps it.
-use Prim.Native.Nat.{ℕ, zero, suc, _+_, _*_, _-_, _^_, _≤_, _<_}
-use mathlib.Core.Path.{_≡_, refl, sym, ap, _∙_, subst}
-use mathlib.Core.Logic.{_≢_, _⊎_, inl, inr}
-use mathlib.Core.Bool.{Bool, true, false, not}
+use Prim.Native.Nat.{ℕ, suc, _+_, _*_, _-_, _≤_, _<_}
+use mathlib.Core.Path.{_≡_, refl, sym, subst}
+use mathlib.Core.Logic.{_≢_}
+use mathlib.Core.Bool.{Bool, true, false}
 use mathlib.Core.List.{List}
 use native.Mathlib.Omega.{arith}
-use native.Mathlib.Decide.{ℕ-discrete}
 use native.Mathlib.Numerals.{add-one}
 use lib.Dec.{ltb, eqb}
 use lib.ListN.{set}
 use borrow.Author.Tests.{eqb-true, eqb-false, lt-ltb}
 use Rattle.tables.specs.Choice.{pick, both}
-use Rattle.tables.specs.Layout.{nodeAt, nodeWord, tagWord, childWord, recordWord, childPlace, lField, pField, thirdField}
+use Rattle.tables.specs.Layout.{nodeAt, tagWord, childWord, recordWord, childPlace, lField, pField, thirdField}
 use Rattle.tables.specs.Place.{inNode, Inside}
 use Rattle.tables.specs.declared.header.Header.{Header}
 use Rattle.tables.proofs.Places.{read-same}
 use Rattle.process.specs.declared.Process.{Process}
-use Rattle.process.specs.declared.Stepped.{Stepped}
 use Rattle.process.specs.Process.{withPoint, withIndex}
 use Rattle.process.specs.Answer.{goingOn}
-use Rattle.points.specs.Rows.{childGood, swapChild, lookRow, hangRow, row6, row7, row12, row13}
+use Rattle.points.specs.Rows.{childGood, swapChild, hangRow, row6, row7, row12, row13}
 use Rattle.history.specs.View.{In}
 use Rattle.history.specs.Shared.{Shared}
 use Rattle.history.specs.Change.{SwapChild, SameTables, swap-replace, swap-prune}
@@ -28,13 +26,12 @@ use Rattle.history.specs.Run.{Step, changes, step-swaps}
 use Rattle.history.proofs.Invariant.{Sound}
 use Rattle.history.proofs.Lasting.{grown}
 use Rattle.history.proofs.Touch.{child-used, p-used, gp-used}
-use Rattle.history.proofs.Helping.{noted-above}
-use Rattle.history.proofs.Helps.{Marks, Helps, LooksForL, SwapsL, Ends, LooksForP, SwapsP, l-found, l-not-here, l-nowhere, l-swapped-before, p-found, p-not-here, p-nowhere, p-swapped-before, always-one, swap-ends}
+use Rattle.history.proofs.Helps.{Marks, Helps, LooksForL, LooksForP, l-found, l-not-here, l-nowhere, l-swapped-before, p-found, p-not-here, p-nowhere, p-swapped-before, always-one, swap-ends}
 use Rattle.history.proofs.Knows.{Mind, KnowsAt, Serves}
 use Rattle.link.specs.Tables.{viewOf, tablesOf, stackOf}
-use Rattle.link.proofs.Writes.{Fit, Writes, writes-node, writes-tables, child-swap}
+use Rattle.link.proofs.Writes.{Writes, writes-node, writes-tables, child-swap}
 use Rattle.link.proofs.Checks.{both-is, below-good}
-use Rattle.link.proofs.Minds.{mindOf, HeldBy, CountersBy, held-more}
+use Rattle.link.proofs.Minds.{mindOf, CountersBy, held-more}
 use Rattle.link.proofs.Moments.{tables, Now, Busy, Follows, already, afterwards, Swapper, at-7, at-13, Turn, k-low, now-sound, quiet}
 use Rattle.link.proofs.Seeing.{counters-help}
 use Rattle.link.proofs.Searching.{known}

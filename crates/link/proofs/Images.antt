@@ -1,23 +1,21 @@
 -- The words of a node that is written whole, by what they are: tag, keys, children, pending.
-use Prim.Native.Nat.{ℕ, zero, suc, _+_, _*_, _-_, _≤_, _<_}
-use mathlib.Core.Path.{_≡_, refl, sym, ap, _∙_}
+use Prim.Native.Nat.{ℕ, suc, _+_, _*_, _-_, _≤_, _<_}
+use mathlib.Core.Path.{_≡_, refl, ap, _∙_}
 use mathlib.Core.Bool.{Bool, true, false}
 use mathlib.Core.List.{List, [], _∷_, List·Memᴰ, List·Memᴰ·head, List·Memᴰ·tail}
-use mathlib.Core.Logic.{_⊎_, inl, inr}
 use native.Mathlib.Omega.{arith}
 use native.Mathlib.Nat.{add-zero}
-use lib.Dec.{ltb, eqb}
-use borrow.Author.Tests.{lt-ltb, le-ltb, eq-eqb, ne-eqb, eqb-true, eqb-false}
-use lib.ListN.{length, getD, drop}
-use lib.Seq.{getD-drop}
-use Rattle.tables.specs.Choice.{pick, listed}
+use lib.Dec.{eqb}
+use borrow.Author.Tests.{lt-ltb, le-ltb, eq-eqb, ne-eqb, eqb-false}
+use lib.ListN.{length, getD}
+use Rattle.tables.specs.Choice.{pick}
 use Rattle.tables.specs.Numbers.{nodeWords, keyRoom}
 use Rattle.tables.specs.Layout.{childPlace, pendingPlace}
-use Rattle.tables.specs.Node.{imageWord, imageChild, nodeImage}
+use Rattle.tables.specs.Node.{imageWord, nodeImage}
 use Rattle.tables.specs.Keys.{keyArray}
 use Rattle.tables.proofs.Lists.{getD-listed₀}
 use Rattle.history.specs.View.{In, keys-from}
-use Rattle.history.specs.Keys.{put-in, take-out}
+use Rattle.history.specs.Keys.{take-out}
 
 module _ (k tag : ℕ) (ks : List ℕ) (first pending : ℕ) where
   at : (o : ℕ) → o < nodeWords k → getD (nodeImage k tag ks first pending) o 0 ≡ imageWord k tag ks first pending o

@@ -1,11 +1,11 @@
 -- What no row touches: the operation, the key and, but for the one added, the steps; and what becomes of the own record.
-use Prim.Native.Nat.{ℕ, zero, suc, _+_, _*_, _-_, _≤_, _<_}
+use Prim.Native.Nat.{ℕ, zero, suc, _+_, _-_, _≤_}
 use mathlib.Core.Path.{_≡_, refl, sym, ap, _∙_, subst}
-use mathlib.Core.Logic.{_≢_, _⊎_, inl, inr}
+use mathlib.Core.Logic.{_⊎_, inl, inr}
 use mathlib.Core.Bool.{Bool, true, false, not}
 use mathlib.Core.List.{List}
 use native.Mathlib.Omega.{arith}
-use lib.Dec.{ltb, eqb}
+use lib.Dec.{eqb}
 use borrow.Author.Tests.{eqb-true}
 use Rattle.tables.specs.Choice.{pick, both}
 use Rattle.tables.specs.declared.header.Header.{Header}
@@ -16,10 +16,10 @@ use Rattle.tables.specs.declared.pending.Pending.the-variants.{Clean, Replace, 
 use Rattle.process.specs.declared.Process.{Process}
 use Rattle.process.specs.declared.Answer.{Answer}
 use Rattle.process.specs.declared.Stepped.{Stepped}
-use Rattle.process.specs.Process.{restartedOf, withPoint, withPSeen, withL, withIndex, withMask, withOther, withDepth, withOwn, withSteps, descendedOf, toThree, toSix, toNine, toTen, toEleven, toTwelve, isCleanOf}
+use Rattle.process.specs.Process.{restartedOf, withPoint, withL, withIndex, withDepth, withOwn, withSteps, descendedOf, toThree, toSix, toNine, toTen, toEleven}
 use Rattle.process.specs.Answer.{answer, goingOn, endingOf}
-use Rattle.draws.specs.Draw.{newRecord, roomFor}
-use Rattle.points.specs.Touch.{Row, seenBy, succeeds}
+use Rattle.draws.specs.Draw.{newRecord}
+use Rattle.points.specs.Touch.{Row, seenBy}
 use Rattle.tables.specs.Pending.{pendingOf}
 use Rattle.points.specs.Help.{topOf, helping, helpEnded}
 use Rattle.points.specs.Rows.{kinAt, touch2, touch4, touch5, touch9, atLeaf, atChild, lookRow, hangRow, unflagRow, row1, row2, row3, row4, row5, row6, row7, row8, row9, row10, row11, row12, row13, row14, rowOf}

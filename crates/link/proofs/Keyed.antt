@@ -1,21 +1,19 @@
 -- Keys, routes and rows of keys: what the tables compute is what the history says.
-use Prim.Native.Nat.{ℕ, zero, suc, _+_, _-_, _≤_, _<_}
+use Prim.Native.Nat.{ℕ, zero, suc, _+_, _-_, _<_}
 use mathlib.Core.Path.{_≡_, refl, sym, ap, _∙_}
-use mathlib.Core.Logic.{_⊎_, inl, inr}
 use mathlib.Core.Bool.{Bool, true, false}
 use mathlib.Core.List.{List, [], _∷_, _++_, List·Memᴰ, List·Memᴰ·head, List·Memᴰ·tail}
 use native.Mathlib.Omega.{arith}
 use native.Mathlib.Numerals.{add-one}
-use lib.Dec.{T, ltb, eqb}
-use borrow.Author.Tests.{eqb-true, eqb-false, eq-eqb, lt-ltb}
-use lib.ListN.{length, getD, take, drop}
+use lib.Dec.{ltb, eqb}
+use borrow.Author.Tests.{eqb-true, eq-eqb, lt-ltb}
+use lib.ListN.{getD, take, drop}
 use Rattle.tables.specs.Choice.{pick, both, listed}
-use Rattle.tables.specs.Numbers as numbers
 use Rattle.tables.specs.Layout.{keyWord, tagWord}
 use Rattle.tables.specs.Keys.{keysOf, rises, holds, firstAt, greaterAt, equalAt, routeOf, putIn, takenOut}
 use Rattle.tables.specs.declared.header.Header.{Header}
-use Rattle.history.specs.View.{within, route, route-from, keys-from, keys, infinity}
-use Rattle.history.specs.Keys.{put-in, take-out, Rises, none, next}
+use Rattle.history.specs.View.{route, route-from, keys-from, keys, infinity}
+use Rattle.history.specs.Keys.{put-in, take-out, Rises, next}
 use Rattle.history.proofs.Within.{route-within, keys-within}
 use Rattle.history.proofs.Invariant.{Sorted}
 use Rattle.link.specs.Tables.{viewOf}

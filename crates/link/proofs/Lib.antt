@@ -17,6 +17,7 @@ pub mod Ending
 pub mod Marking
 pub mod Stepping
 pub mod Carry
+pub mod Beyond
 pub mod Calls
 pub mod Reached
 pub mod Beginning

@@ -1,5 +1,5 @@
 -- Rows 9 and 11: the mark or a push, and the sibling noted.
-use Prim.Native.Nat.{ℕ, zero, suc, _+_, _*_, _-_, _^_, _≤_, _<_}
+use Prim.Native.Nat.{ℕ, suc, _+_, _*_, _-_, _≤_, _<_}
 use mathlib.Core.Path.{_≡_, refl, sym, ap, _∙_, subst}
 use mathlib.Core.Logic.{_≢_, _⊎_, inl, inr}
 use mathlib.Core.Bool.{Bool, true, false, not}
@@ -10,38 +10,36 @@ use native.Mathlib.Numerals.{add-one}
 use lib.Dec.{ltb, eqb}
 use lib.ListN.{set}
 use borrow.Author.Tests.{eqb-true, eqb-false, eq-eqb, ne-eqb, ltb-true, ltb-false, lt-ltb, not-true}
-use Rattle.tables.specs.Choice.{pick, both}
-use Rattle.tables.specs.Layout.{depthOf, nodeAt, stackAt, nodeWord, tagWord, childWord, pendingWord, recordWord, stackWord, pendingPlace, lField, pField, expectedField}
+use Rattle.tables.specs.Choice.{pick, both, either}
+use Rattle.tables.specs.Layout.{depthOf, nodeAt, stackAt, nodeWord, tagWord, childWord, pendingWord, recordWord, pendingPlace, lField, pField, expectedField}
 use Rattle.tables.specs.Place.{inNode, inStack, Inside}
 use Rattle.tables.specs.Pending.{pendingOf}
 use Rattle.tables.specs.declared.header.Header.{Header}
 use Rattle.tables.proofs.Places.{read-same}
 use Rattle.tables.proofs.Picks.{both-1, both-2}
 use Rattle.process.specs.declared.Process.{Process}
-use Rattle.process.specs.declared.Stepped.{Stepped}
 use Rattle.process.specs.Process.{withIndex, withOther, withDepth, toEleven, toTwelve}
 use Rattle.process.specs.Answer.{goingOn}
-use Rattle.damage.specs.Fields.{either}
 use Rattle.points.specs.Help.{helping}
-use Rattle.points.specs.Rows.{seenGood, childGood, kinAt, nonEmpty, touch9, row9, touch11, notes, otherWith, notedGood, noted, row11}
+use Rattle.points.specs.Rows.{seenGood, childGood, touch9, row9, touch11, notes, otherWith, notedGood, noted, row11}
 use Rattle.history.specs.View.{In}
 use Rattle.history.specs.Shared.{Desc, Shared, Failed}
-use Rattle.history.specs.Change.{SwapPend, mark}
+use Rattle.history.specs.Change.{mark}
 use Rattle.history.specs.Effects.{swaps}
 use Rattle.history.specs.Run.{Step, changes, rests, step-swaps}
 use Rattle.history.proofs.Invariant.{Sound}
 use Rattle.history.proofs.Lasting.{grown}
 use Rattle.history.proofs.Touch.{p-used, child-used}
-use Rattle.history.proofs.Stacks.{Stacked, Goes-on, stack-push}
+use Rattle.history.proofs.Stacks.{stack-push}
 use Rattle.history.proofs.Helping.{Noted, noted-first}
-use Rattle.history.proofs.Helps.{Marks, Helps, Notes, LooksForP, notes-skip, notes-take, never-a-second, always-one, all-noted}
+use Rattle.history.proofs.Helps.{Marks, Notes, notes-skip, notes-take, never-a-second, always-one, all-noted}
 use Rattle.history.proofs.Descent.{read-now}
 use Rattle.history.proofs.Knows.{Mind, KnowsAt, Owns, none-yet, owns, Serves}
 use Rattle.history.proofs.Serving as serving
-use Rattle.link.specs.Tables.{viewOf, descOf, tablesOf, stackOf}
-use Rattle.link.proofs.Writes.{Fit, Writes, writes-none, writes-node, writes-stack, writes-tables, pend-swap, tables-same, stack-same, stack-over-stack, stack-new}
+use Rattle.link.specs.Tables.{viewOf, tablesOf, stackOf}
+use Rattle.link.proofs.Writes.{Writes, writes-none, writes-node, writes-stack, writes-tables, pend-swap, tables-same, stack-same, stack-over-stack, stack-new}
 use Rattle.link.proofs.Checks.{both-is, word-names, pending-good, below-good}
-use Rattle.link.proofs.Minds.{mindOf, HeldBy, CountersBy, held-more, stack-room}
+use Rattle.link.proofs.Minds.{mindOf, CountersBy, held-more, stack-room}
 use Rattle.link.proofs.Moments.{tables, Now, Busy, Follows, already, afterwards, nobody, Turn, k-low, now-sound, quiet}
 use Rattle.link.proofs.Seeing.{counters-help, held-other, Loose, free, below, helps-on}
 use Rattle.link.proofs.Searching.{known}

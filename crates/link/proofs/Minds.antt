@@ -2,32 +2,31 @@
 use Prim.Native.Nat.{ℕ, zero, suc, _+_, _*_, _-_, _/_, _^_, _≤_, _<_}
 use mathlib.Core.Path.{_≡_, refl, sym, ap, _∙_, subst}
 use mathlib.Core.Logic.{_≢_, _⊎_, inl, inr}
-use mathlib.Core.Bool.{Bool, true, false, not}
+use mathlib.Core.Bool.{Bool, true, false}
 use mathlib.Core.List.{List}
 use native.Mathlib.Omega.{arith}
-use native.Mathlib.Decide.{ℕ-discrete}
 use lib.Count.{ones}
 use lib.Dec.{ltb, leb, eqb}
-use borrow.Author.Tests.{lt-ltb, le-ltb, le-leb, lt-leb, eq-eqb, ne-eqb, eqb-true, leb-true, ltb-true, ltb-false, eqb-false}
+use borrow.Author.Tests.{lt-ltb, le-leb, ne-eqb, eqb-true, leb-true, ltb-false}
 use Rattle.tables.specs.Choice.{pick, both, within}
 use Rattle.tables.specs.Layout.{depthOf, tagWord, recordWord, processField}
-use Rattle.tables.specs.Pending.{wordOf, pendingOf, pendingGood}
+use Rattle.tables.specs.Pending.{wordOf}
 use Rattle.tables.specs.Node.{kinOf, isNode, isInternal, isLeaf}
 use Rattle.tables.specs.declared.header.Header.{Header}
 use Rattle.tables.specs.declared.pending.Pending.{Pending}
 use Rattle.tables.specs.declared.pending.Pending.the-variants.{Clean, Replace, Prune, Mark}
-use Rattle.tables.proofs.Picks.{both-1, both-2, within-low, within-high}
+use Rattle.tables.proofs.Picks.{within-low, within-high}
 use Rattle.process.specs.declared.Process.{Process}
-use Rattle.damage.specs.Fields.{either, given, zeroOr, pointOfInsert, pointGood, usesIndex, numbersGood, nodesGood, recordsGood, usesGood, processGood}
+use Rattle.damage.specs.Fields.{given, zeroOr, pointOfInsert, pointGood, usesIndex, numbersGood, nodesGood, recordsGood, usesGood, processGood}
 use Rattle.damage.specs.Helped.{kindAt, recordGood, helpedGood}
-use Rattle.history.specs.View.{View, In}
-use Rattle.history.specs.Shared.{Desc, Shared, Failed}
+use Rattle.history.specs.View.{In}
+use Rattle.history.specs.Effects.{Grown}
+use Rattle.history.specs.Shared.{Shared}
 use Rattle.history.proofs.Invariant.{Sound}
-use Rattle.history.proofs.Lasting.{Grown}
 use Rattle.history.proofs.Touch.{p-used}
-use Rattle.history.proofs.Helps.{Marks, Helps, LooksForL, SwapsL, Ends, Notes, LooksForP, SwapsP, always-one}
+use Rattle.history.proofs.Helps.{Marks, Helps, SwapsP, always-one}
 use Rattle.history.proofs.Stacks.{Stacked, stack-depth}
-use Rattle.history.proofs.Knows.{Mind, KnowsAt, Serves}
+use Rattle.history.proofs.Knows.{Mind, Serves}
 use Rattle.link.specs.Tables.{viewOf, tablesOf, stackOf}
 use Rattle.link.proofs.Writes.{Fit}
 use Rattle.link.proofs.Checks.{both-is, within-is, Names, inner-good, leaf-good, node-good, pending-good, replace-good, prune-good}

@@ -1,15 +1,14 @@
 -- The state at each moment of a run, what all processes share of it, what a busy one has, and what a row is to give.
-use Prim.Native.Nat.{ℕ, zero, suc, _+_, _*_, _-_, _^_, _≤_, _<_}
-use mathlib.Core.Path.{_≡_, refl, sym, ap, _∙_}
-use mathlib.Core.Logic.{_≢_, _⊎_, inl, inr}
-use mathlib.Core.Bool.{Bool, true, false}
+use Prim.Native.Nat.{ℕ, _*_, _-_, _^_, _≤_, _<_}
+use mathlib.Core.Path.{_≡_, refl}
+use mathlib.Core.Logic.{_≢_, inl}
+use mathlib.Core.Bool.{Bool, true}
 use mathlib.Core.List.{List}
 use native.Mathlib.Omega.{arith}
 use lib.Pow.{pow-pos}
 use Rattle.tables.specs.Layout.{childWord, recordWord, processField, operationField, keyField}
 use Rattle.tables.specs.declared.header.Header.{Header}
-use Rattle.tables.specs.declared.pending.Pending.{Pending}
-use Rattle.tables.specs.declared.pending.Pending.the-variants.{Clean, Replace, Prune, Mark}
+use Rattle.tables.specs.declared.pending.Pending.the-variants.{Clean}
 use Rattle.process.specs.declared.Process.{Process}
 use Rattle.process.specs.declared.Answer.{Answer}
 use Rattle.process.specs.declared.Answer.the-variants.{No, Yes, Full}
@@ -19,13 +18,12 @@ use Rattle.process.specs.Answer.{goingOn, endingOf}
 use Rattle.points.specs.Help.{helpedL, helpedP, helpedThird}
 use Rattle.history.specs.View.{In, Holds}
 use Rattle.history.specs.Shared.{Shared, Done, Stands}
-use Rattle.history.specs.Run.{Same, Step, rests, Run, step-swaps}
+use Rattle.history.specs.Run.{Step, rests, Run, step-swaps, Moment}
 use Rattle.history.proofs.Invariant.{Sound}
 use Rattle.history.proofs.Runs.{sound-at}
-use Rattle.history.proofs.SearchPath.{Moment}
 use Rattle.history.proofs.Descent.{Way, at-root, way-root}
 use Rattle.history.proofs.Knows.{Mind, KnowsAt, Descends, Serves}
-use Rattle.link.specs.Tables.{viewOf, tablesOf, stackOf}
+use Rattle.link.specs.Tables.{tablesOf, stackOf}
 use Rattle.link.proofs.Writes.{Fit, writes-none, tables-same}
 use Rattle.link.proofs.Minds.{mindOf, Held, HeldBy, Counters, CountersBy}
 

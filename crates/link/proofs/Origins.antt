@@ -1,8 +1,8 @@
 -- Every record in use comes from an operation: which step drew it, and the start that the step goes back to.
 use Prim.Native.Nat.{ℕ, zero, suc, _+_, _-_, _≤_, _<_}
-use mathlib.Core.Path.{_≡_, refl, sym, ap, _∙_, subst}
-use mathlib.Core.Logic.{_≢_, _⊎_, inl, inr}
-use mathlib.Core.Bool.{Bool, true, false}
+use mathlib.Core.Path.{_≡_, ap, _∙_}
+use mathlib.Core.Logic.{_≢_}
+use mathlib.Core.Bool.{true}
 use mathlib.Core.List.{List}
 use native.Mathlib.Omega.{arith}
 use lib.ListN.{length}
@@ -13,20 +13,16 @@ use Rattle.tables.specs.Fresh.{freshHeader}
 use Rattle.tables.specs.declared.header.Header.{Header}
 use Rattle.process.specs.declared.Process.{Process}
 use Rattle.points.specs.Rows.{rowOf}
-use Rattle.points.specs.Step.{stepDone}
 use Rattle.history.specs.View.{In}
 use Rattle.history.specs.Shared.{Desc, Shared}
-use Rattle.history.specs.Effects.{SetMoves}
 use Rattle.history.proofs.Swapping.{DrawnAt, drawn-between}
-use Rattle.history.proofs.Lasting.{Grown}
 use Rattle.link.specs.Tables.{descOf}
-use Rattle.link.specs.Events.{Event, step, State, taken, stepIn, eventAt, stateAt, blockAt, headerAt, sinceAt, Proper, AllProper, empty, also, freshState}
-use Rattle.link.specs.Swaps.{ChildSwap}
-use Rattle.link.proofs.Moments.{tables, Busy}
+use Rattle.link.specs.Events.{Event, step, State, taken, eventAt, stateAt, blockAt, headerAt, Proper, AllProper, empty, also, freshState}
+use Rattle.link.proofs.Moments.{tables}
 use Rattle.link.proofs.Reached.{its-turn, taken-own, state-is, block-is, header-is}
 use Rattle.link.proofs.Outcomes.{Outcome, nothing, begun, moved, outcome}
 use Rattle.link.proofs.Beginning.{Rested, fresh-rested}
-use Rattle.link.proofs.Clauses.{Reached, good, hk, run, sound₀, grows, set-changes, swap-at}
+use Rattle.link.proofs.Clauses.{Reached, good, hk, run, sound₀, grows}
 use Rattle.link.proofs.Story.{Story, story}
 
 -- record r, as it stands at moment m: the step that drew it, and the operation and key that it was drawn for
@@ -38,6 +34,7 @@ pub record Comes (s : State) (es : List Event) (m r : ℕ) : Type 0 where
   pub event : eventAt es when ≡ step n
   pub busy : taken (stateAt s es when) n .operation ≢ 0
   pub next : r ≡ tables (headerAt s es) (blockAt s es) when .records + 1
+  pub counted : tables (headerAt s es) (blockAt s es) (suc when) .records ≡ r
   pub process : tables (headerAt s es) (blockAt s es) m .rec r .process ≡ n
   pub operation : tables (headerAt s es) (blockAt s es) m .rec r .operation ≡ taken (stateAt s es when) n .operation
   pub key : tables (headerAt s es) (blockAt s es) m .rec r .key ≡ taken (stateAt s es when) n .key
@@ -71,6 +68,7 @@ module _ {s : State} {es : List Event} (reached : Reached s es) where
             event = z;
             busy = λ x. omega (arith, b .counters .op-low);
             next = d .next;
+            counted = d .drawn;
             process = ap (λ (x : Desc). x .process) later ∙ by .0;
             operation = ap (λ (x : Desc). x .operation) later ∙ by .2;
             key = ap (λ (x : Desc). x .key) later ∙ by .3;

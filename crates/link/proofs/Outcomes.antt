@@ -1,33 +1,25 @@
 -- What an event does, in one of three ways: nothing; an accepted start; an accepted step.
-use Prim.Native.Nat.{ℕ, zero, suc, _+_, _-_, _≤_, _<_}
-use mathlib.Core.Path.{_≡_, refl, sym, ap, _∙_, subst}
-use mathlib.Core.Logic.{_≢_, _⊎_, inl, inr}
+use Prim.Native.Nat.{ℕ, suc, _-_}
+use mathlib.Core.Path.{_≡_, refl, sym, ap, _∙_}
+use mathlib.Core.Logic.{_≢_}
 use mathlib.Core.Bool.{Bool, true, false}
 use mathlib.Core.List.{List}
-use native.Mathlib.Omega.{arith}
 use lib.Dec.{eqb}
 use borrow.Author.Tests.{eq-eqb, ne-eqb}
-use Rattle.tables.specs.Choice.{pick, both}
+use Rattle.tables.specs.Choice.{both}
 use Rattle.tables.specs.declared.header.Header.{Header}
 use Rattle.process.specs.declared.Process.{Process}
-use Rattle.process.specs.declared.Answer.{Answer}
-use Rattle.process.specs.declared.StepAnswer.{StepAnswer}
-use Rattle.process.specs.declared.StepAnswer.the-variants.{GoesOn, Ended, Refused}
 use Rattle.process.specs.declared.Stepped.{Stepped}
 use Rattle.process.specs.Process.{startedAs}
-use Rattle.process.specs.Answer.{stepsUp}
-use Rattle.points.specs.Touch.{Out}
-use Rattle.points.specs.Rows.{rowOf}
-use Rattle.points.specs.Step.{stepDone, stepRefused, started}
-use Rattle.points.specs.declared.start.StartAnswer.the-variants.{Accepted}
-use Rattle.points.specs.declared.start.Started.{Started}
+use Rattle.index.specs.Calls.{StartOut, StepOut}
 use Rattle.history.specs.View.{In}
-use Rattle.link.specs.Events.{Event, start, step, State, taken, startIn, stepIn, putBack, after, eventAt, stateAt, blockAt, headerAt, Proper, isAccepted, starts, isAnswered, steppedBy, sinceAt}
+use Rattle.link.specs.Events.{Event, start, step, State, taken, startIn, stepIn, eventAt, stateAt, blockAt, headerAt, isAccepted, starts, isAnswered, steppedBy, sinceAt}
 use Rattle.link.proofs.Checks.{both-is}
-use Rattle.link.proofs.Moments.{tables, Now, Busy, Why, Follows, already, afterwards, answers}
+use Rattle.link.proofs.Moments.{Busy, Follows, already, afterwards, answers}
 use Rattle.link.proofs.Stepping.{turn, step-sound}
 use Rattle.link.proofs.Calls as calls
-use Rattle.link.proofs.Reached.{Good, Doing, idles, works, state-next, same-state}
+use Rattle.link.proofs.Calls.{putBack, stepRefusedIn, stepDoneIn, stepped-to, started-to}
+use Rattle.link.proofs.Reached.{Good, Doing, idles, works, state-next}
 
 pub data Outcome (s : State) (es : List Event) (m : ℕ) : Type 0 where
   nothing : stateAt s es (suc m) ≡ stateAt s es m → ((p : ℕ) → starts (stateAt s es m) (eventAt es m) p ≡ false)
@@ -37,7 +29,7 @@ pub data Outcome (s : State) (es : List Event) (m : ℕ) : Type 0 where
       → ((p : ℕ) → p ≢ n → starts (stateAt s es m) (eventAt es m) p ≡ false) → ((p : ℕ) → steppedBy (stateAt s es m) (eventAt es m) p ≡ false) → Outcome s es m
   moved : (n : ℕ) → In (headerAt s es m .processes) n → eventAt es m ≡ step n
       → Busy (headerAt s es) (blockAt s es) (sinceAt s es n m) m n (taken (stateAt s es m) n)
-      → stepIn (stateAt s es m) n ≡ stepDone (blockAt s es m) (headerAt s es m) n (taken (stateAt s es m) n)
+      → stepIn (stateAt s es m) n ≡ stepDoneIn (stateAt s es m) n
       → ((p : ℕ) → starts (stateAt s es m) (eventAt es m) p ≡ false) → steppedBy (stateAt s es m) (eventAt es m) n ≡ true
       → ((p : ℕ) → p ≢ n → steppedBy (stateAt s es m) (eventAt es m) p ≡ false) → Outcome s es m
 
@@ -66,22 +58,22 @@ module _ {s : State} {es : List Event} {m : ℕ} (good : Good s es m) where
       no-start : (p : ℕ) → starts (W m) (eventAt es m) p ≡ false
       no-start p = ap (λ (e : Event). starts (W m) e p) z
 
-      refused : (r : ℕ) → stepIn (W m) n ≡ stepRefused (blockAt s es m) (taken (W m) n) r → Outcome s es m
+      refused : (r : ℕ) → stepIn (W m) n ≡ stepRefusedIn (W m) r → Outcome s es m
       refused r e =
-          nothing (state-next s es m (step n) z ∙ ap (λ (o : Out). putBack (W m) (o .block) n (o .stepped .process)) e ∙ same-state good n) no-start
-          (λ p. ap (λ (x : Event). steppedBy (W m) x p) z ∙ ap (λ (o : Out). both (eqb n p) (isAnswered (o .stepped .answer))) e ∙ both-no (eqb n p))
+          nothing (state-next s es m (step n) z ∙ ap stepped-to e) no-start
+          (λ p. ap (λ (x : Event). steppedBy (W m) x p) z ∙ ap (λ (o : StepOut). both (eqb n p) (isAnswered (o .answer))) e ∙ both-no (eqb n p))
 
       busy : taken (W m) n .operation ≢ 0 → Doing s es m n → Busy (headerAt s es) (blockAt s es) (sinceAt s es n m) m n (taken (W m) n)
       busy d (idles e) = absurd (d e)
       busy d (works y) = y
 
       done : In (headerAt s es m .processes) n → Busy (headerAt s es) (blockAt s es) (sinceAt s es n m) m n (taken (W m) n)
-          → stepIn (W m) n ≡ stepDone (blockAt s es m) (headerAt s es m) n (taken (W m) n) → Outcome s es m
+          → stepIn (W m) n ≡ stepDoneIn (W m) n → Outcome s es m
       done u y e =
           moved n u z y e no-start
           (ap (λ (x : Event). steppedBy (W m) x n) z ∙ both-is (eq-eqb n n refl)
-          (ap (λ (o : Out). isAnswered (o .stepped .answer)) e ∙ follows-answered (turn (good .now) (taken (W m) n) y .follows)))
-          (λ p d. ap (λ (x : Event). steppedBy (W m) x p) z ∙ ap (λ (t : Bool). both t (isAnswered (stepIn (W m) n .stepped .answer))) (ne-eqb n p (λ x. d (sym x))) ∙ no-both _)
+          (ap (λ (o : StepOut). isAnswered (o .answer)) e ∙ follows-answered (turn (good .now) (taken (W m) n) y .follows)))
+          (λ p d. ap (λ (x : Event). steppedBy (W m) x p) z ∙ ap (λ (t : Bool). both t (isAnswered (stepIn (W m) n .answer))) (ne-eqb n p (λ x. d (sym x))) ∙ no-both _)
 
       go : calls.Step (W m) (good .now .fit) (good .rows) n → Outcome s es m
       go (calls.unknown d e) = refused 4 e
@@ -94,11 +86,11 @@ module _ {s : State} {es : List Event} {m : ℕ} (good : Good s es m) where
 
       go : calls.Start (W m) (good .now .fit) (good .rows) n operation key → Outcome s es m
       go (calls.refused r d f e) =
-          nothing (state-next s es m (start n operation key) z ∙ ap (λ (o : Started). putBack (W m) (blockAt s es m) n (o .process)) e ∙ same-state good n)
-          (λ p. ap (λ (x : Event). starts (W m) x p) z ∙ ap (λ (o : Started). both (eqb n p) (isAccepted (o .answer))) e ∙ both-no (eqb n p)) no-step
+          nothing (state-next s es m (start n operation key) z ∙ ap (started-to (W m)) e)
+          (λ p. ap (λ (x : Event). starts (W m) x p) z ∙ ap (λ (o : StartOut). both (eqb n p) (isAccepted (o .answer))) e ∙ both-no (eqb n p)) no-step
       go (calls.accepted u a c d f e) =
-          begun n operation key u f z (state-next s es m (start n operation key) z ∙ ap (λ (o : Started). putBack (W m) (blockAt s es m) n (o .process)) e)
-          (ap (λ (x : Event). starts (W m) x n) z ∙ both-is (eq-eqb n n refl) (ap (λ (o : Started). isAccepted (o .answer)) e))
+          begun n operation key u f z (state-next s es m (start n operation key) z ∙ ap (started-to (W m)) e)
+          (ap (λ (x : Event). starts (W m) x n) z ∙ both-is (eq-eqb n n refl) (ap (λ (o : StartOut). isAccepted (o .answer)) e))
           (λ p d. ap (λ (x : Event). starts (W m) x p) z ∙ ap (λ (t : Bool). both t (isAccepted (startIn (W m) n operation key .answer))) (ne-eqb n p (λ x. d (sym x))) ∙ no-both _) no-step
 
   pub outcome : Outcome s es m

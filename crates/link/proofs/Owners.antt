@@ -1,8 +1,7 @@
 -- A record that stands is the own record of a busy process: so when all are idle, every node of the tree is clean.
-use Prim.Native.Nat.{ℕ, zero, suc, _+_, _*_, _-_, _≤_, _<_}
-use mathlib.Core.Path.{_≡_, refl, sym, ap, _∙_, subst}
-use mathlib.Core.Logic.{_≢_, _⊎_, inl, inr}
-use mathlib.Core.Bool.{Bool, true, false}
+use Prim.Native.Nat.{ℕ, zero, suc, _*_, _-_, _≤_, _<_}
+use mathlib.Core.Path.{_≡_, sym, ap, _∙_, subst}
+use mathlib.Core.Logic.{_≢_}
 use mathlib.Core.List.{List}
 use native.Mathlib.Omega.{arith}
 use native.Mathlib.Decide.{ℕ-discrete, decLe}
@@ -12,10 +11,9 @@ use Rattle.process.specs.declared.Process.{Process}
 use Rattle.process.specs.declared.Stepped.{Stepped}
 use Rattle.process.specs.Process.{startedAs}
 use Rattle.points.specs.Rows.{rowOf}
-use Rattle.points.specs.Step.{stepDone}
+use Rattle.link.proofs.Calls.{stepDoneIn}
 use Rattle.history.specs.View.{In, Reach}
 use Rattle.history.specs.Shared.{Desc, Shared, Stands}
-use Rattle.history.proofs.Lasting.{Grown}
 use Rattle.history.proofs.Quiet.{stands-before, quiet-clean}
 use Rattle.link.specs.Tables.{tablesOf}
 use Rattle.link.specs.Events.{Event, step, State, taken, stepIn, eventAt, stateAt, blockAt, headerAt, sinceAt}
@@ -44,7 +42,7 @@ module _ {s : State} {es : List Event} (reached : Reached s es) where
 
   -- the step of the process that moves
   module _ (m n : ℕ) (v : In (hs m .processes) n) (z : eventAt es m ≡ step n) (b : Busy hs bs (sinceAt s es n m) m n (taken (W m) n))
-      (e : stepIn (W m) n ≡ stepDone (bs m) (hs m) n (taken (W m) n)) where
+      (e : stepIn (W m) n ≡ stepDoneIn (W m) n) where
     abbrev q : Process
     q = taken (W m) n
 

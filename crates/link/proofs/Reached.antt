@@ -1,41 +1,38 @@
 -- Every moment of a list of events keeps the invariant of the real state, and no event is refused as damaged.
-use Prim.Native.Nat.{ℕ, zero, suc, _+_, _*_, _-_, _≤_, _<_}
+use Prim.Native.Nat.{ℕ, zero, suc, _-_, _≤_, _<_}
 use mathlib.Core.Path.{_≡_, refl, sym, ap, _∙_, subst}
 use mathlib.Core.Logic.{_≢_, _⊎_, inl, inr}
-use mathlib.Core.Bool.{Bool, true, false, not}
+use mathlib.Core.Bool.{Bool, true, false}
 use mathlib.Core.List.{List}
 use native.Mathlib.Omega.{arith}
 use native.Mathlib.Decide.{ℕ-discrete}
 use lib.Dec.{eqb}
-use lib.ListN.{length, getD, set, length-set}
-use lib.Seq.{set-getD, getD-set-same, getD-set-other}
+use lib.ListN.{length, length-set}
+use lib.Seq.{getD-set-same, getD-set-other}
 use borrow.Author.Tests.{eq-eqb, ne-eqb}
 use Rattle.tables.specs.Choice.{pick, both}
-use Rattle.tables.specs.Numbers.{infinity}
 use Rattle.tables.specs.Layout.{childWord}
 use Rattle.tables.specs.Header.{headerOf}
 use Rattle.tables.specs.declared.header.Header.{Header}
 use Rattle.process.specs.declared.Process.{Process}
 use Rattle.process.specs.declared.Stepped.{Stepped}
 use Rattle.process.specs.Process.{idle, startedAs}
-use Rattle.points.specs.Touch.{Out}
 use Rattle.points.specs.Rows.{rowOf}
-use Rattle.points.specs.Step.{stepDone, stepRefused, started, startRefused}
-use Rattle.points.specs.declared.start.StartAnswer.the-variants.{Accepted}
-use Rattle.points.specs.declared.start.Started.{Started}
+use Rattle.index.specs.Calls.{StartOut, StepOut}
 use Rattle.points.specs.Help.{helpedL, helpedP, helpedThird}
 use Rattle.history.specs.View.{In}
 use Rattle.history.specs.Run.{Step, step-swaps}
 use Rattle.link.specs.Tables.{tablesOf}
-use Rattle.link.specs.Events.{Event, start, step, State, taken, startIn, stepIn, putBack, after, eventAt, stateAt, blockAt, headerAt, Proper, isAccepted, starts, sinceAt}
+use Rattle.link.specs.Events.{Event, start, step, State, taken, startIn, stepIn, after, eventAt, stateAt, blockAt, headerAt, Proper, isAccepted, starts, sinceAt}
 use Rattle.link.specs.Swaps.{Swapping, seven, thirteen, ChildSwap}
 use Rattle.link.proofs.Checks.{both-is}
 use Rattle.link.proofs.Minds.{mindOf}
-use Rattle.link.proofs.Moments.{tables, Now, Busy, Swapper, at-7, at-13, nobody, Turn, same-self, same-none, k-low, now-sound, held-root, descends-root, counters-root}
+use Rattle.link.proofs.Moments.{tables, Now, Busy, Swapper, at-7, at-13, nobody, Turn, same-self, same-none, k-low, held-root, descends-root, counters-root}
 use Rattle.link.proofs.Searching.{known}
 use Rattle.link.proofs.Stepping.{turn, step-sound}
 use Rattle.link.proofs.Carry.{Shift, turn-shift, shift-self, shift-to, follows-to, now-next, place-back, busy-next, busy-own}
 use Rattle.link.proofs.Calls as calls
+use Rattle.link.proofs.Calls.{putBack, stepRefusedIn, stepDoneIn, startDoneIn, stepped-to, started-to}
 
 -- what process n is doing at moment m
 pub data Doing (s : State) (es : List Event) (m n : ℕ) : Type 0 where
@@ -110,7 +107,7 @@ module _ {s : State} {es : List Event} {m : ℕ} (good : Good s es m) where
 
   -- a step that is done
   module _ (n : ℕ) (u : In (hs m .processes) n) (z : eventAt es m ≡ step n) (y : Busy hs bs (sinceAt s es n m) m n (taken (W m) n))
-      (e : stepIn (W m) n ≡ stepDone (bs m) (hs m) n (taken (W m) n)) where
+      (e : stepIn (W m) n ≡ stepDoneIn (W m) n) where
     abbrev q : Process
     q = taken (W m) n
 
@@ -121,7 +118,7 @@ module _ {s : State} {es : List Event} {m : ℕ} (good : Good s es m) where
     its-turn = turn (good .now) q y
 
     pub state-is : W (suc m) ≡ putBack (W m) (rowOf (bs m) (hs m) n q .block) n (stepped .process)
-    state-is = state-next s es m (step n) z ∙ ap (λ (o : Out). putBack (W m) (o .block) n (o .stepped .process)) e
+    state-is = state-next s es m (step n) z ∙ ap stepped-to e
 
     pub block-is : bs (suc m) ≡ rowOf (bs m) (hs m) n q .block
     block-is = ap (λ (x : State). x .block) state-is
@@ -160,9 +157,9 @@ module _ {s : State} {es : List Event} {m : ℕ} (good : Good s es m) where
 
   -- a start that is accepted
   module _ (n operation key : ℕ) (u : In (hs m .processes) n) (z : eventAt es m ≡ start n operation key) (low : 1 ≤ operation) (high : operation ≤ 3) (fin : key < 4294967295)
-      (e : startIn (W m) n operation key ≡ started Accepted (startedAs operation key)) where
+      (e : startIn (W m) n operation key ≡ startDoneIn (W m) n operation key) where
     pub begun : W (suc m) ≡ putBack (W m) (bs m) n (startedAs operation key)
-    begun = state-next s es m (start n operation key) z ∙ ap (λ (o : Started). putBack (W m) (bs m) n (o .process)) e
+    begun = state-next s es m (start n operation key) z ∙ ap (started-to (W m)) e
 
     pub same-shift : Shift hs bs m n (hs (suc m)) (bs (suc m))
     same-shift =
@@ -181,7 +178,7 @@ module _ {s : State} {es : List Event} {m : ℕ} (good : Good s es m) where
 
         started-now : starts (W m) (start n operation key) n ≡ true
         started-now =
-            ap (λ (t : Bool). both t (isAccepted (startIn (W m) n operation key .answer))) (eq-eqb n n refl) ∙ ap (λ (o : Started). both true (isAccepted (o .answer))) e ∙ is
+            ap (λ (t : Bool). both t (isAccepted (startIn (W m) n operation key .answer))) (eq-eqb n n refl) ∙ ap (λ (o : StartOut). both true (isAccepted (o .answer))) e ∙ is
           where
             is : both true true ≡ true
             is = both-is refl refl
@@ -211,16 +208,12 @@ module _ {s : State} {es : List Event} {m : ℕ} (good : Good s es m) where
             no-both : (t : Bool) → both false t ≡ false
             no-both t = refl
 
-  -- the record put back as it was
-  pub same-state : (n : ℕ) → putBack (W m) (bs m) n (taken (W m) n) ≡ W m
-  same-state n = ap (λ (x : List Process). record { block = bs m; row = x }) (set-getD (W m .row) (n - 1) idle)
-
   go-on : (e : Event) → eventAt es m ≡ e → Proper e → Good s es (suc m)
   go-on (step n) z x = go (calls.step-goes (W m) (good .now .fit) (good .rows) n)
     where
-      refused : (r : ℕ) → stepIn (W m) n ≡ stepRefused (bs m) (taken (W m) n) r → Good s es (suc m)
+      refused : (r : ℕ) → stepIn (W m) n ≡ stepRefusedIn (W m) r → Good s es (suc m)
       refused r e =
-          still (state-next s es m (step n) z ∙ ap (λ (o : Out). putBack (W m) (o .block) n (o .stepped .process)) e ∙ same-state n) (λ p. since-stays s es m p (step n) z refl)
+          still (state-next s es m (step n) z ∙ ap stepped-to e) (λ p. since-stays s es m p (step n) z refl)
 
       busy : In (hs m .processes) n → taken (W m) n .operation ≢ 0 → Doing s es m n → Busy hs bs (sinceAt s es n m) m n (taken (W m) n)
       busy u d (idles e) = absurd (d e)
@@ -234,8 +227,8 @@ module _ {s : State} {es : List Event} {m : ℕ} (good : Good s es m) where
     where
       go : calls.Start (W m) (good .now .fit) (good .rows) n operation key → Good s es (suc m)
       go (calls.refused r d f e) =
-          still (state-next s es m (start n operation key) z ∙ ap (λ (o : Started). putBack (W m) (bs m) n (o .process)) e ∙ same-state n)
-          (λ p. since-stays s es m p (start n operation key) z (ap (λ (o : Started). both (eqb n p) (isAccepted (o .answer))) e ∙ both-false (eqb n p)))
+          still (state-next s es m (start n operation key) z ∙ ap (started-to (W m)) e)
+          (λ p. since-stays s es m p (start n operation key) z (ap (λ (o : StartOut). both (eqb n p) (isAccepted (o .answer))) e ∙ both-false (eqb n p)))
       go (calls.accepted u a c d f e) = begins n operation key u z a c (omega arith) e
 
   pub good-next : Proper (eventAt es m) → Good s es (suc m)
@@ -285,7 +278,7 @@ module _ {s : State} {es : List Event} {m : ℕ} (good : Good s es m) where
       }
 
   module _ (n : ℕ) (u : In (hs₁ m .processes) n) (d : taken (W₁ m) n .operation ≢ 0) (z : eventAt es m ≡ step n)
-      (y : Busy hs₁ bs₁ (sinceAt s es n m) m n (taken (W₁ m) n)) (e : stepIn (W₁ m) n ≡ stepDone (bs₁ m) (hs₁ m) n (taken (W₁ m) n)) where
+      (y : Busy hs₁ bs₁ (sinceAt s es n m) m n (taken (W₁ m) n)) (e : stepIn (W₁ m) n ≡ stepDoneIn (W₁ m) n) where
     abbrev q₁ : Process
     q₁ = taken (W₁ m) n
 
@@ -325,8 +318,8 @@ module _ {s : State} {es : List Event} {m : ℕ} (good : Good s es m) where
   move-by : (e : Event) → eventAt es m ≡ e → Move s es m
   move-by (step n) z = go (calls.step-goes (W₁ m) (good .now .fit) (good .rows) n)
     where
-      same : (r : ℕ) → stepIn (W₁ m) n ≡ stepRefused (bs₁ m) (taken (W₁ m) n) r → bs₁ (suc m) ≡ bs₁ m
-      same r e = ap (λ (x : State). x .block) (state-next s es m (step n) z) ∙ ap (λ (o : Out). o .block) e
+      same : (r : ℕ) → stepIn (W₁ m) n ≡ stepRefusedIn (W₁ m) r → bs₁ (suc m) ≡ bs₁ m
+      same r e = ap (λ (x : State). x .block) (state-next s es m (step n) z) ∙ ap (λ (o : StepOut). o .block) e
 
       here : (r : ℕ) (w : ChildSwap s es m r) → w .process ≡ n
       here r w = step-one (w .process) n (sym (w .event) ∙ z)

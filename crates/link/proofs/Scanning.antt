@@ -1,7 +1,7 @@
 -- Row 3: the children of p are read in turn, and the mask counts those that are not empty.
-use Prim.Native.Nat.{ℕ, zero, suc, _+_, _*_, _-_, _^_, _≤_, _<_}
+use Prim.Native.Nat.{ℕ, suc, _+_, _*_, _-_, _^_, _≤_, _<_}
 use mathlib.Core.Path.{_≡_, refl, sym, ap, _∙_, subst}
-use mathlib.Core.Logic.{_≢_, _⊎_, inl, inr}
+use mathlib.Core.Logic.{_≢_}
 use mathlib.Core.Bool.{Bool, true, false, not}
 use mathlib.Core.List.{List}
 use native.Mathlib.Omega.{arith}
@@ -12,16 +12,15 @@ use lib.Pow.{pow-mono}
 use lib.Bits.{bitOr, or-shifted-r}
 use lib.Count.{ones, ones-cat, ones-ones}
 use lib.Dec.{ltb, eqb}
-use borrow.Author.Tests.{eqb-true, eqb-false, eq-eqb, ne-eqb, ltb-true, ltb-false}
+use borrow.Author.Tests.{eqb-true, eqb-false, ne-eqb, ltb-true, ltb-false}
 use Rattle.tables.specs.Choice.{pick, both}
 use Rattle.tables.specs.Layout.{tagWord, childWord}
 use Rattle.tables.specs.declared.header.Header.{Header}
 use Rattle.tables.proofs.Picks.{both-1, both-2}
 use Rattle.process.specs.declared.Process.{Process}
-use Rattle.process.specs.declared.Stepped.{Stepped}
 use Rattle.process.specs.Process.{withPoint, withIndex, withMask}
 use Rattle.process.specs.Answer.{goingOn}
-use Rattle.points.specs.Rows.{childGood, kinAt, nonEmpty, touch3, maskWith, pointAfter3, scanned3, row3}
+use Rattle.points.specs.Rows.{kinAt, nonEmpty, maskWith, pointAfter3, scanned3, row3}
 use Rattle.history.specs.View.{In}
 use Rattle.history.specs.Shared.{Shared}
 use Rattle.history.proofs.Invariant.{Sound}
@@ -29,9 +28,8 @@ use Rattle.history.proofs.Touch.{child-used}
 use Rattle.history.proofs.Pairs.{full, full-yes, full-no}
 use Rattle.history.proofs.Knows.{Mind, KnowsAt, Counts}
 use Rattle.history.proofs.Downward.{row-3-next, row-3-prune, row-3-replace}
-use Rattle.link.specs.Tables.{viewOf, tablesOf}
 use Rattle.link.proofs.Checks.{kin-internal, kin-leaf, below-good}
-use Rattle.link.proofs.Minds.{mindOf, HeldBy, CountersBy}
+use Rattle.link.proofs.Minds.{mindOf}
 use Rattle.link.proofs.Moments.{tables, Now, Busy, Follows, already, Turn, k-low, now-sound, quiet}
 use Rattle.link.proofs.Searching.{counters-early, known}
 

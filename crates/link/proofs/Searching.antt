@@ -1,7 +1,7 @@
 -- Rows 1 and 2: down the tree, to an answer, to 3 or 4, or to help.
-use Prim.Native.Nat.{ℕ, zero, suc, _+_, _*_, _-_, _^_, _≤_, _<_}
+use Prim.Native.Nat.{ℕ, _+_, _*_, _-_, _^_, _≤_, _<_}
 use mathlib.Core.Path.{_≡_, refl, sym, ap, _∙_, subst}
-use mathlib.Core.Logic.{_≢_, _⊎_, inl, inr}
+use mathlib.Core.Logic.{_≢_, inr}
 use mathlib.Core.Bool.{Bool, true, false, not}
 use mathlib.Core.List.{List, List·Memᴰ}
 use native.Mathlib.Omega.{arith}
@@ -13,7 +13,6 @@ use borrow.Author.Tests.{eqb-true, eqb-false, ne-eqb}
 use Rattle.tables.specs.Choice.{pick, both}
 use Rattle.tables.specs.Layout.{tagWord, childWord, pendingWord}
 use Rattle.tables.specs.Pending.{wordOf, pendingOf}
-use Rattle.tables.specs.Node.{kinOfTag}
 use Rattle.tables.specs.Keys.{keysOf, rises, holds, routeOf}
 use Rattle.tables.specs.declared.header.Header.{Header}
 use Rattle.tables.specs.declared.node.Kin.{Kin}
@@ -22,24 +21,23 @@ use Rattle.tables.specs.declared.pending.Pending.{Pending}
 use Rattle.tables.specs.declared.pending.Pending.the-variants.{Clean, Replace, Prune, Mark}
 use Rattle.tables.proofs.OneToOne.{pending-word, word-pending}
 use Rattle.process.specs.declared.Process.{Process}
-use Rattle.process.specs.declared.Stepped.{Stepped}
 use Rattle.process.specs.Process.{withPoint, withPSeen, withL, descendedOf, toThree, isCleanOf}
-use Rattle.process.specs.Answer.{answer, goingOn, endingOf}
+use Rattle.process.specs.Answer.{answer, goingOn}
 use Rattle.points.specs.Help.{helping}
 use Rattle.points.specs.Rows.{childGood, touch2, kinAt, row1, row2, insertAt, deleteAt, findAt, atLeaf, atChild, leafGood2}
 use Rattle.history.specs.View.{In, infinity, route, keys}
 use Rattle.history.specs.Shared.{Shared}
 use Rattle.history.proofs.Invariant.{Sound}
-use Rattle.history.proofs.Stacks.{Stacked, stack-empty, Goes-on}
-use Rattle.history.proofs.Descent.{Read, Up, Above, at-root, above, child-used, child-above, leaf-below, leaf-has, leaf-lacks}
+use Rattle.history.proofs.Stacks.{Stacked, stack-empty}
+use Rattle.history.proofs.Descent.{Read, Above, at-root, above, child-used, child-above, leaf-below, leaf-has, leaf-lacks}
 use Rattle.history.proofs.Knows.{Mind, to-put, KnowsAt, Descends, Reads}
 use Rattle.history.proofs.Downward.{row-1, row-2-down, row-2-replace, row-2-count}
-use Rattle.link.specs.Tables.{viewOf, tablesOf, stackOf}
+use Rattle.link.specs.Tables.{stackOf}
 use Rattle.link.proofs.Keyed.{keys-are, route-are, holds-mem, holds-not, sorted-rises}
 use Rattle.link.proofs.Checks.{both-is, Names, word-names, kin-internal, kin-leaf, below-good, pending-good}
-use Rattle.link.proofs.Minds.{mindOf, Held, HeldBy, Counters, CountersBy}
+use Rattle.link.proofs.Minds.{mindOf, HeldBy, Counters, CountersBy}
 use Rattle.link.proofs.Moments.{tables, Now, Busy, found, missing, there, not-there, Follows, already, answers, Turn, k-low, now-sound, quiet}
-use Rattle.link.proofs.Seeing.{Loose, free, helps-on}
+use Rattle.link.proofs.Seeing.{free, helps-on}
 
 -- the numbers of points 1 to 5
 pub counters-early : {k operation key point index mask depth own : ℕ} (point′ index′ mask′ : ℕ) → Counters k operation key point index mask depth own → point ≤ 5

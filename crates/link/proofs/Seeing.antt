@@ -1,12 +1,11 @@
 -- Going to help a value that was seen, and help that has ended: what the process knows then.
-use Prim.Native.Nat.{ℕ, zero, suc, _+_, _*_, _-_, _^_, _≤_, _<_}
-use mathlib.Core.Path.{_≡_, refl, sym, ap, _∙_, subst}
-use mathlib.Core.Logic.{_≢_, _⊎_, inl, inr}
-use mathlib.Core.Bool.{Bool, true, false}
+use Prim.Native.Nat.{ℕ, suc, _-_, _≤_}
+use mathlib.Core.Path.{_≡_, refl, sym, _∙_, subst}
+use mathlib.Core.Logic.{_≢_, _⊎_, inl}
+use mathlib.Core.Bool.{false}
 use mathlib.Core.List.{List}
 use native.Mathlib.Omega.{arith}
 use native.Mathlib.Decide.{ℕ-discrete}
-use lib.Dec.{eqb}
 use borrow.Author.Tests.{eq-eqb, ne-eqb}
 use Rattle.tables.specs.Choice.{pick, both}
 use Rattle.tables.specs.Pending.{pendingOf}
@@ -14,19 +13,18 @@ use Rattle.tables.specs.declared.header.Header.{Header}
 use Rattle.tables.specs.declared.pending.Pending.{Pending}
 use Rattle.tables.specs.declared.pending.Pending.the-variants.{Clean, Replace, Prune, Mark}
 use Rattle.process.specs.declared.Process.{Process}
-use Rattle.process.specs.declared.Stepped.{Stepped}
-use Rattle.process.specs.Process.{restartedOf, toSix, toNine, toTen, toEleven}
+use Rattle.process.specs.Process.{toSix, toNine, toTen, toEleven}
 use Rattle.process.specs.Answer.{goingOn}
-use Rattle.points.specs.Help.{helping, helpEnded, emptyEnd}
+use Rattle.points.specs.Help.{helping, helpEnded}
 use Rattle.history.specs.View.{In}
-use Rattle.history.specs.Shared.{Shared, Failed}
+use Rattle.history.specs.Shared.{Shared}
 use Rattle.history.proofs.Invariant.{Word, clean, replacing, pruning, marked}
 use Rattle.history.proofs.Helps.{Marks}
 use Rattle.history.proofs.Stacks.{Stacked, Goes-on}
 use Rattle.history.proofs.Descent.{Read}
-use Rattle.history.proofs.Knows.{Mind, Owns, none-yet, owns, Serves}
+use Rattle.history.proofs.Knows.{Mind, Owns, none-yet, owns}
 use Rattle.history.proofs.Serving.{serve-replace, serve-prune, serve-mark, serve-top}
-use Rattle.link.specs.Tables.{tablesOf, stackOf}
+use Rattle.link.specs.Tables.{stackOf}
 use Rattle.link.proofs.Checks.{clean-is, replace-is, prune-is, mark-is}
 use Rattle.link.proofs.Minds.{mindOf, Held, HeldBy, Counters, CountersBy}
 use Rattle.link.proofs.Moments.{tables, Now, Frees, Follows, already, k-low, restarts}

@@ -1,38 +1,36 @@
 -- What the rows from 6 on share: a helper's facts over a step, one word written, a look at a child, the top of a stack.
-use Prim.Native.Nat.{ℕ, zero, suc, _+_, _*_, _-_, _^_, _≤_, _<_}
-use mathlib.Core.Path.{_≡_, refl, sym, ap, _∙_, subst}
-use mathlib.Core.Logic.{_≢_, _⊎_, inl, inr}
-use mathlib.Core.Bool.{Bool, true, false, not}
+use Prim.Native.Nat.{ℕ, zero, suc, _+_, _-_, _≤_, _<_}
+use mathlib.Core.Path.{_≡_, refl, ap}
+use mathlib.Core.Logic.{_≢_}
+use mathlib.Core.Bool.{Bool, true, false}
 use mathlib.Core.List.{List}
 use native.Mathlib.Omega.{arith}
-use native.Mathlib.Decide.{ℕ-discrete}
 use lib.Dec.{ltb, eqb}
 use lib.ListN.{set}
-use borrow.Author.Tests.{eqb-true, eqb-false, eq-eqb, ne-eqb, ltb-true, ltb-false, lt-ltb}
-use Rattle.tables.specs.Choice.{pick, both}
+use borrow.Author.Tests.{eqb-true, eqb-false, ltb-true, ltb-false, lt-ltb}
+use Rattle.tables.specs.Choice.{pick}
 use Rattle.tables.specs.Numbers.{nodeWords}
-use Rattle.tables.specs.Layout.{depthOf, nodeAt, stackAt, tagWord, childWord, stackWord, recordWord, processField}
-use Rattle.tables.specs.Place.{inNode, inStack, Inside}
+use Rattle.tables.specs.Layout.{depthOf, nodeAt, tagWord, childWord, stackWord, processField}
+use Rattle.tables.specs.Place.{inNode, Inside}
 use Rattle.tables.specs.declared.header.Header.{Header}
 use Rattle.process.specs.declared.Process.{Process}
 use Rattle.process.specs.declared.Stepped.{Stepped}
 use Rattle.process.specs.Process.{withPoint, withIndex}
 use Rattle.process.specs.Answer.{goingOn}
-use Rattle.points.specs.Rows.{lookedFor, lookRow}
+use Rattle.points.specs.Rows.{lookRow}
 use Rattle.history.specs.View.{In}
 use Rattle.history.specs.Shared.{Shared}
 use Rattle.history.specs.Run.{Step}
 use Rattle.history.proofs.Invariant.{Sound}
 use Rattle.history.proofs.Touch.{child-used}
-use Rattle.history.proofs.Stacks.{Stacked}
 use Rattle.history.proofs.Helps.{Helps}
-use Rattle.history.proofs.Knows.{Mind, KnowsAt, Serves, stays-at}
+use Rattle.history.proofs.Knows.{Mind, Serves, stays-at}
 use Rattle.history.proofs.Serving.{serves-on}
 use Rattle.link.specs.Tables.{tablesOf, stackOf}
-use Rattle.link.proofs.Writes.{Fit, Writes, writes-fit, stack-same, stack-over-node}
+use Rattle.link.proofs.Writes.{Writes, writes-fit, stack-same, stack-over-node}
 use Rattle.link.proofs.Checks.{below-good}
-use Rattle.link.proofs.Minds.{mindOf, stack-room}
-use Rattle.link.proofs.Moments.{tables, Now, Busy, Follows, Swapper, Turn, k-low, now-sound, quiet}
+use Rattle.link.proofs.Minds.{mindOf}
+use Rattle.link.proofs.Moments.{tables, Now, Busy, Follows, Swapper, Turn, now-sound, quiet}
 
 -- two moments
 two : Shared → Shared → ℕ → Shared

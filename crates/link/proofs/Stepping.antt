@@ -1,25 +1,22 @@
 -- A step of a busy process, at whichever point: nothing that it reads or swaps is damaged, and its row gives its turn.
-use Prim.Native.Nat.{ℕ, zero, suc, _≤_, _<_}
-use mathlib.Core.Path.{_≡_, refl, sym, ap, _∙_, subst}
-use mathlib.Core.Logic.{_≢_, _⊎_, inl, inr}
-use mathlib.Core.Bool.{Bool, true, false}
+use Prim.Native.Nat.{ℕ, zero, suc, _≤_}
+use mathlib.Core.Path.{_≡_, refl, sym, subst}
+use mathlib.Core.Bool.{true}
 use mathlib.Core.List.{List}
 use native.Mathlib.Omega.{arith}
-use Rattle.tables.specs.Choice.{pick, both}
+use Rattle.tables.specs.Choice.{pick}
 use Rattle.tables.specs.Layout.{depthOf}
 use Rattle.tables.specs.declared.header.Header.{Header}
 use Rattle.process.specs.declared.Process.{Process}
 use Rattle.points.specs.Touch.{Row}
 use Rattle.points.specs.Rows.{row1, row2, row3, row4, row5, row6, row7, row8, row9, row10, row11, row12, row13, row14, rowOf}
 use Rattle.points.specs.Step.{soundStep}
-use Rattle.damage.specs.Helped.{kindAt}
 use Rattle.history.specs.Shared.{Shared}
-use Rattle.history.specs.View.{In}
 use Rattle.history.proofs.Invariant.{Sound}
 use Rattle.history.proofs.Knows.{Mind, KnowsAt, Serves}
 use Rattle.link.proofs.Checks.{both-is}
 use Rattle.link.proofs.Minds.{mindOf, Uses, process-good, serves-uses, helps-kind, helps-good}
-use Rattle.link.proofs.Moments.{tables, Now, Busy, Turn, k-low, now-sound}
+use Rattle.link.proofs.Moments.{tables, Now, Busy, Turn, now-sound}
 use Rattle.link.proofs.Searching.{turn-1, turn-2}
 use Rattle.link.proofs.Scanning.{turn-3}
 use Rattle.link.proofs.Flagging.{turn-4, turn-5}

@@ -6,29 +6,26 @@ use mathlib.Core.Bool.{Bool, true, false}
 use mathlib.Core.List.{List}
 use native.Mathlib.Omega.{arith}
 use native.Mathlib.Decide.{ℕ-discrete, decLe, decLt}
-use lib.Dec.{ltb}
 use borrow.Author.Tests.{lt-ltb, le-ltb}
 use Rattle.tables.specs.Choice.{pick}
 use Rattle.tables.specs.Header.{headerOf}
 use Rattle.tables.specs.declared.header.Header.{Header}
 use Rattle.process.specs.declared.Process.{Process}
 use Rattle.process.specs.declared.Stepped.{Stepped}
-use Rattle.process.specs.Process.{idle, startedAs, withSteps}
-use Rattle.process.specs.Answer.{stepsUp, goingOn, endingOf}
-use Rattle.draws.specs.Draw.{newRecord}
+use Rattle.process.specs.Process.{startedAs, withSteps}
+use Rattle.process.specs.Answer.{stepsUp, goingOn}
 use Rattle.points.specs.Rows.{rowOf}
-use Rattle.points.specs.Step.{stepDone}
+use Rattle.link.proofs.Calls.{stepDoneIn}
 use Rattle.history.specs.View.{In}
 use Rattle.history.specs.Shared.{Desc, Shared, Failed}
-use Rattle.history.proofs.Lasting.{Grown, failed-stays}
+use Rattle.history.proofs.Lasting.{failed-stays}
 use Rattle.history.proofs.Knows.{own-failed}
 use Rattle.history.proofs.Swapping.{drawn-between}
-use Rattle.link.specs.Events.{Event, start, step, State, taken, stepIn, putBack, eventAt, stateAt, blockAt, headerAt, starts, steppedBy, stepsAt, capped, sinceAt}
+use Rattle.link.specs.Events.{Event, start, step, State, taken, stepIn, eventAt, stateAt, blockAt, headerAt, starts, steppedBy, stepsAt, capped, sinceAt}
 use Rattle.link.proofs.Minds.{mindOf}
-use Rattle.link.proofs.Moments.{tables, Now, Busy, Turn}
+use Rattle.link.proofs.Moments.{tables, Busy}
 use Rattle.link.proofs.Searching.{known}
-use Rattle.link.proofs.Carry.{Shift}
-use Rattle.link.proofs.Reached.{Good, since-next, taken-own, taken-other, its-turn, its-shift, state-is, header-is}
+use Rattle.link.proofs.Reached.{since-next, taken-own, taken-other, its-turn, its-shift, state-is, header-is}
 use Rattle.link.proofs.Keeps.{OwnTo, same-own, new-own, no-own, Kept, goes, stops, kept}
 use Rattle.link.proofs.Outcomes.{Outcome, nothing, begun, moved, outcome}
 use Rattle.link.proofs.Clauses.{Reached, good, hk, run, sound, sound₀, step-at, grows, processes-at}
@@ -128,7 +125,7 @@ module _ {s : State} {es : List Event} (reached : Reached s es) where
 
   -- a step of its own
   module _ (m n : ℕ) (u : In (headerAt s es m .processes) n) (z : eventAt es m ≡ step n) (b : Busy (headerAt s es) (blockAt s es) (sinceAt s es n m) m n (taken (W m) n))
-      (e : stepIn (W m) n ≡ stepDone (blockAt s es m) (headerAt s es m) n (taken (W m) n)) (f : starts (W m) (eventAt es m) n ≡ false)
+      (e : stepIn (W m) n ≡ stepDoneIn (W m) n) (f : starts (W m) (eventAt es m) n ≡ false)
       (g : steppedBy (W m) (eventAt es m) n ≡ true) (y : Story s es m n) where
     abbrev q : Process
     q = taken (W m) n

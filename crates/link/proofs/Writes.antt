@@ -1,24 +1,21 @@
 -- Writes of one node word, and of stack words: what they are to the tables as the history sees them.
-use Prim.Native.Nat.{ℕ, _+_, _*_, _-_, _≤_, _<_}
-use mathlib.Core.Path.{_≡_, refl, sym, ap, _∙_, fun-ext}
+use Prim.Native.Nat.{ℕ, _*_, _-_, _≤_, _<_}
+use mathlib.Core.Path.{_≡_, refl, _∙_, fun-ext}
 use mathlib.Core.Bool.{Bool, true, false}
 use mathlib.Core.List.{List}
 use native.Mathlib.Omega.{arith}
-use native.Mathlib.Decide.{ℕ-discrete}
 use lib.Dec.{ltb}
 use borrow.Author.Tests.{ltb-true}
 use lib.ListN.{length, getD, set, length-set}
-use lib.Seq.{getD-set-same}
 use Rattle.tables.specs.Choice.{pick}
 use Rattle.tables.specs.Numbers.{nodeWords, recordWords}
 use Rattle.tables.specs.Layout.{blockWords, depthOf, nodeAt, stackAt, nodeWord, recordWord, stackWord, childPlace, pendingPlace}
-use Rattle.tables.specs.Header.{headerOf, headerFrom}
-use Rattle.tables.specs.Place.{Place, inHeader, inNode, inRecord, inStack, placeAt, OneOf, Inside}
+use Rattle.tables.specs.Header.{headerOf}
+use Rattle.tables.specs.Place.{inHeader, inNode, inRecord, inStack, Inside}
 use Rattle.tables.specs.declared.header.Header.{Header}
 use Rattle.tables.proofs.Places.{read-same, read-other}
 use Rattle.tables.proofs.Limits.{Limits}
 use Rattle.history.specs.View.{In}
-use Rattle.history.specs.Shared.{Desc, Shared}
 use Rattle.history.specs.Change.{SwapChild, SwapPend, SameTables}
 use Rattle.history.specs.Run.{Same}
 use Rattle.history.proofs.Within.{within-same}

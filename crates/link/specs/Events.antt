@@ -1,9 +1,9 @@
 -- Events: starts and steps of the processes of a row over one block, and the state at each moment of a list of them.
-use Prim.Native.Nat.{ℕ, zero, suc, _+_, _-_, _≤_}
+use Prim.Native.Nat.{ℕ, zero, suc, _+_, _≤_}
 use mathlib.Core.Bool.{Bool, true, false}
 use mathlib.Core.List.{List, [], _∷_}
 use lib.Dec.{ltb, eqb}
-use lib.ListN.{length, getD, set}
+use lib.ListN.{getD}
 use Rattle.tables.specs.Choice.{pick, both}
 use Rattle.tables.specs.Numbers.{infinity}
 use Rattle.tables.specs.Header.{headerOf}
@@ -13,11 +13,9 @@ use Rattle.process.specs.declared.Process.{Process}
 use Rattle.process.specs.declared.StepAnswer.{StepAnswer}
 use Rattle.process.specs.declared.StepAnswer.the-variants.{GoesOn, Ended, Refused as StepRefused}
 use Rattle.process.specs.Process.{idle}
-use Rattle.points.specs.Touch.{Out}
-use Rattle.points.specs.Step.{startOf, stepOf}
 use Rattle.points.specs.declared.start.StartAnswer.{StartAnswer}
 use Rattle.points.specs.declared.start.StartAnswer.the-variants.{Accepted, Refused}
-use Rattle.points.specs.declared.start.Started.{Started}
+use Rattle.index.specs.Calls.{recordOf, StartOut, startCall, StepOut, stepCall}
 
 -- start (process, operation, key); step (process)
 pub data Event : Type 0 where
@@ -29,22 +27,20 @@ pub record State : Type 0 where
   pub block : List ℕ
   pub row : List Process
 
--- a call takes the record of its process out of the row, and puts it back
+-- the record of a process
 abbrev pub taken : State → ℕ → Process
-taken s n = getD (s .row) (n - 1) idle
+taken s n = recordOf (s .row) n
 
-abbrev pub startIn : State → ℕ → ℕ → ℕ → Started
-startIn s n operation key = startOf (s .block) (length (s .row)) n (taken s n) operation key
+-- the calls, on the block and the row of a state
+abbrev pub startIn : State → ℕ → ℕ → ℕ → StartOut
+startIn s n operation key = startCall (s .block) (s .row) n operation key
 
-abbrev pub stepIn : State → ℕ → Out
-stepIn s n = stepOf (s .block) (length (s .row)) n (taken s n)
-
-abbrev pub putBack : State → List ℕ → ℕ → Process → State
-putBack s b n q = record { block = b; row = set (s .row) (n - 1) q }
+abbrev pub stepIn : State → ℕ → StepOut
+stepIn s n = stepCall (s .block) (s .row) n
 
 abbrev pub after : State → Event → State
-after s (start n operation key) = putBack s (s .block) n (startIn s n operation key .process)
-after s (step n) = putBack s (stepIn s n .block) n (stepIn s n .stepped .process)
+after s (start n operation key) = record { block = s .block; row = startIn s n operation key .row }
+after s (step n) = record { block = stepIn s n .block; row = stepIn s n .row }
 
 -- event m of a list, from 0. (No process has the number 0: a step of it is refused.)
 abbrev pub eventAt : List Event → ℕ → Event
@@ -93,7 +89,7 @@ isAnswered (StepRefused e) = false
 
 abbrev pub steppedBy : State → Event → ℕ → Bool
 steppedBy s (start m operation key) n = false
-steppedBy s (step m) n = both (eqb m n) (isAnswered (stepIn s m .stepped .answer))
+steppedBy s (step m) n = both (eqb m n) (isAnswered (stepIn s m .answer))
 
 -- the accepted steps of process n since its last accepted start
 unfoldable pub stepsAt : State → List Event → ℕ → ℕ → ℕ

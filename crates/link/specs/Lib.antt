@@ -2,3 +2,5 @@
 pub mod Tables
 pub mod Events
 pub mod Swaps
+pub mod Operations
+pub mod Sets

@@ -1,15 +1,11 @@
 -- A block as the history sees it: the tables that the processes share, and what a process record says, as numbers.
 use Prim.Native.Nat.{ℕ}
 use mathlib.Core.List.{List}
-use lib.Count.{ones}
 use lib.Dec.{ltb}
 use Rattle.tables.specs.Choice.{pick}
 use Rattle.tables.specs.Layout.{depthOf, tagWord, keyWord, childWord, pendingWord, recordWord, stackWord}
 use Rattle.tables.specs.Layout.{kindField, lField, pField, thirdField, expectedField, processField, operationField, keyField}
-use Rattle.tables.specs.Pending.{wordOf}
-use Rattle.tables.specs.Header.{headerOf}
 use Rattle.tables.specs.declared.header.Header.{Header}
-use Rattle.process.specs.declared.Process.{Process}
 use Rattle.history.specs.View.{View, within}
 use Rattle.history.specs.Shared.{Desc, Shared}
 

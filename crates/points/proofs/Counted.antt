@@ -5,7 +5,7 @@ use mathlib.Core.Bool.{Bool, true, false, not}
 use mathlib.Core.List.{List}
 use native.Mathlib.Omega.{arith}
 use lib.Dec.{eqb}
-use Rattle.tables.specs.Choice.{pick, both}
+use Rattle.tables.specs.Choice.{pick, both, either}
 use Rattle.tables.specs.Layout.{tagWord}
 use Rattle.tables.specs.Pending.{pendingOf}
 use Rattle.tables.specs.Keys.{keysOf, holds}
@@ -24,7 +24,6 @@ use Rattle.process.specs.declared.Answer.the-variants.{No, Yes, Full}
 use Rattle.process.specs.declared.StepAnswer.{StepAnswer}
 use Rattle.process.specs.declared.StepAnswer.the-variants.{GoesOn, Ended, Refused}
 use Rattle.process.specs.declared.Stepped.{Stepped}
-use Rattle.damage.specs.Fields.{either}
 use Rattle.draws.specs.Draw.{newRecord, roomFor, neededNodes}
 use Rattle.points.specs.Touch.{seenBy, succeeds, Row, Out}
 use Rattle.points.specs.Help.{helpedL, helpedP, helpedThird, topOf, helpEnded, helping}
@@ -209,8 +208,10 @@ module _ (b : List ℕ) (rows n : ℕ) (q : Process) (a : Accepted b rows n q) w
   pub ended-counts : (r : Answer) (s : ℕ) → said .answer ≡ Ended r s → (s ≡ stepsUp (q .steps)) × (said .process ≡ idle)
   ended-counts r s e = subst (λ (x : StepAnswer). Counts (stepsUp (q .steps)) x (said .process)) e (step-tells .counts)
 
-  pub never-refused : (e : Refusal) → said .answer ≡ Refused e → ⊥
-  never-refused e f = subst (λ (x : StepAnswer). Counts (stepsUp (q .steps)) x (said .process)) f (step-tells .counts)
+  pub never-refused : (e : Refusal) → rowOf b (headerOf b) n q .stepped .answer ≡ Refused e → ⊥
+  never-refused e f =
+      subst (λ (x : StepAnswer). Counts (stepsUp (q .steps)) x (rowOf b (headerOf b) n q .stepped .process)) f
+      (row-tells b (headerOf b) n q (accepted-known b rows n q a .sound) .counts)
 
   pub full-exactly : isFull (said .answer) ≡ fullAt b (headerOf b) q (rowOf b (headerOf b) n q)
   full-exactly = step-tells .full-is

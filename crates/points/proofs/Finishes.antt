@@ -6,10 +6,10 @@ use mathlib.Core.List.{List}
 use lib.Dec.{ltb, eqb}
 use lib.ListN.{set}
 use borrow.Author.Tests.{lt-ltb, le-ltb, eq-eqb, ne-eqb}
-use Rattle.tables.specs.Choice.{pick, both}
+use Rattle.tables.specs.Choice.{pick, both, either}
 use Rattle.tables.specs.Refusal.{refusal}
-use Rattle.tables.specs.Layout.{depthOf, nodeAt, stackAt, childWord, pendingWord, childPlace, pendingPlace}
-use Rattle.tables.specs.Pending.{pendingOf, pendingGood}
+use Rattle.tables.specs.Layout.{depthOf, nodeAt, stackAt, stackWord, childWord, pendingWord, childPlace, pendingPlace}
+use Rattle.tables.specs.Pending.{pendingOf, pruneKind, recordOfKind, pendingGood}
 use Rattle.tables.specs.Node.{belowOf, isNode}
 use Rattle.tables.specs.declared.header.Header.{Header}
 use Rattle.tables.specs.declared.pending.Pending.{Pending}
@@ -20,8 +20,7 @@ use Rattle.process.specs.Process.{withPoint, withIndex, withOther, withDepth, t
 use Rattle.process.specs.Answer.{goingOn, refusedAs}
 use Rattle.process.specs.declared.Process.{Process}
 use Rattle.process.specs.declared.Stepped.{Stepped}
-use Rattle.damage.specs.Fields.{either}
-use Rattle.points.specs.Touch.{out, rowDone}
+use Rattle.points.specs.Touch.{Out, out, rowDone}
 use Rattle.points.specs.Help.{helpedP, helpedL, helpedThird, helpedExpected, topOf, helpEnded, helping, topGood}
 use Rattle.points.specs.Rows.{nonEmpty, lookedFor, lookRow, hangRow, unflagRow, popGood, underTop, notesKin, otherWith, noted, row9, row10, row11}
 use Rattle.points.specs.Parts.{pushed, markedOrPushed, noteDone}
@@ -54,6 +53,11 @@ module _ (b : List ℕ) (h : Header) (q : Process) (parent target found missed s
   unfolding lookRow
   look-bad g i = row-not b q (lookRow b h q parent target found missed) s (ap isNode (seen-is g)) i
 
+-- 6 and 12: the parent and the node looked for are those of the record helped
+pub look-at : (b : List ℕ) (h : Header) (q : Process) (x y parent target found missed : ℕ) (o : Out) → x ≡ parent → y ≡ target →
+    o ≡ rowDone b q (lookRow b h q x y found missed) → o ≡ rowDone b q (lookRow b h q parent target found missed)
+look-at b h q x y parent target found missed o e f g = g ∙ rw (e, f) refl
+
 pub ruleset looks = (look-found, look-on, look-missed, look-good, look-bad)
 
 module _ (b : List ℕ) (h : Header) (q : Process) (parent from to next seen : ℕ) (c : Child) (t u v : Bool) (s : Stepped)
@@ -69,6 +73,11 @@ module _ (b : List ℕ) (h : Header) (q : Process) (parent from to next seen : �
   pub hang-bad : v ≡ false → s ≡ refusedAs q (refusal 3) → out s b ≡ rowDone b q (hangRow b h q parent from to next)
   unfolding hangRow
   hang-bad f g = row-not b q (hangRow b h q parent from to next) s (sym sound-is ∙ f) g
+
+-- 7 and 13
+pub hang-at : (b : List ℕ) (h : Header) (q : Process) (x y z parent from to next : ℕ) (o : Out) → x ≡ parent → y ≡ from → z ≡ to →
+    o ≡ rowDone b q (hangRow b h q x y z next) → o ≡ rowDone b q (hangRow b h q parent from to next)
+hang-at b h q x y z parent from to next o e f g i = i ∙ rw (e, f, g) refl
 
 pub ruleset hangs = (hang-good, hang-bad)
 
@@ -86,6 +95,26 @@ module _ (b : List ℕ) (h : Header) (n : ℕ) (q : Process) (node kind word : �
   pub unflag-bad : v ≡ false → s ≡ refusedAs q (refusal 3) → out s b ≡ rowDone b q (unflagRow b h n q node kind)
   unfolding unflagRow
   unflag-bad f g = row-not b q (unflagRow b h n q node kind) s (sym flag-sound ∙ f) g
+
+-- 8 and 14
+pub unflag-at : (b : List ℕ) (h : Header) (n : ℕ) (q : Process) (x node kind : ℕ) (o : Out) → x ≡ node →
+    o ≡ rowDone b q (unflagRow b h n q x kind) → o ≡ rowDone b q (unflagRow b h n q node kind)
+unflag-at b h n q x node kind o e f = f ∙ rw e refl
+
+-- the tests of 8 and 14, and of 10
+module _ (b : List ℕ) (h : Header) (n : ℕ) (q : Process) (s t u : Bool) (e : u ≡ both s t) where
+  pub unflag-tests : (word top : ℕ) → top ≡ topOf b h n q → s ≡ pendingGood b h (pendingOf word) → t ≡ topGood b h (q .depth) top →
+      u ≡ both (pendingGood b h (pendingOf word)) (topGood b h (q .depth) (topOf b h n q))
+  unflag-tests word top f g i = e ∙ rw (g, i, f) refl
+
+  pub pop-kinds : (top under d : ℕ) → top ≡ topOf b h n q → s ≡ recordOfKind b h top pruneKind → d ≡ q .depth - 1 → t ≡ topGood b h d under → u ≡ popGood b h n q under
+  pop-kinds top under d f g i j = e ∙ rw (g, j, f, i) refl
+
+pub under-is : (b : List ℕ) (h : Header) (n : ℕ) (q : Process) (d c under : ℕ) → d ≡ q .depth - 1 → c ≡ d - 1 → under ≡ stackWord b h n c → under ≡ underTop b h n q
+under-is b h n q d c under e f g = g ∙ rw (f, e) refl
+
+pub popped-is : (q q1 : Process) (under d : ℕ) (s : Stepped) → d ≡ q .depth - 1 → q1 ≡ withDepth q d → s ≡ helpEnded false under q1 → s ≡ helpEnded false under (withDepth q (q .depth - 1))
+popped-is q q1 under d s e f g = g ∙ rw (f, e) refl
 
 pub ruleset unflags = (unflag-good, unflag-bad)
 

@@ -6,7 +6,7 @@ use mathlib.Core.List.{List}
 use native.Mathlib.Omega.{arith}
 use lib.Dec.{eqb}
 use borrow.Author.Tests.{eq-eqb, ne-eqb}
-use Rattle.tables.specs.Choice.{pick, both}
+use Rattle.tables.specs.Choice.{pick, both, either}
 use Rattle.tables.specs.Refusal.{refusal}
 use Rattle.tables.specs.Layout.{tagWord, pendingWord}
 use Rattle.tables.specs.Pending.{wordOf, pendingOf, pendingGood}
@@ -23,7 +23,6 @@ use Rattle.process.specs.Answer.{answer, goingOn, endingOf, refusedAs}
 use Rattle.process.specs.declared.Process.{Process}
 use Rattle.process.specs.declared.Answer.the-variants.{Full}
 use Rattle.process.specs.declared.Stepped.{Stepped}
-use Rattle.damage.specs.Fields.{either}
 use Rattle.draws.specs.Draw.{newRecord, roomFor, neededNodes, replaceDrawn, pruneDrawn, DrawOut, drawOut, replaceOf, pruneOf}
 use Rattle.draws.specs.declared.Job.{Job}
 use Rattle.points.specs.Touch.{Out, out, rowDone}

@@ -1,10 +1,12 @@
 -- Helping, return by return.
-use Prim.Native.Nat.{ℕ}
+use Prim.Native.Nat.{ℕ, _-_}
 use mathlib.Core.Path.{_≡_, refl, ap, _∙_}
 use mathlib.Core.Bool.{Bool, true, false}
 use mathlib.Core.List.{List}
 use borrow.Author.Tests.{ne-eqb}
 use Rattle.tables.specs.Choice.{pick, both}
+use Rattle.tables.specs.Layout.{stackWord}
+use Rattle.tables.specs.Pending.{pendingOf, pendingGood}
 use Rattle.tables.specs.declared.header.Header.{Header}
 use Rattle.tables.specs.declared.pending.Pending.{Pending}
 use Rattle.tables.specs.declared.pending.Pending.the-variants.{Clean, Replace, Prune, Mark}
@@ -13,7 +15,7 @@ use Rattle.process.specs.Answer.{goingOn, endingOf}
 use Rattle.process.specs.declared.Process.{Process}
 use Rattle.process.specs.declared.Answer.the-variants.{Yes}
 use Rattle.process.specs.declared.Stepped.{Stepped}
-use Rattle.points.specs.Help.{helpEnded, helping, topGood, helpGood}
+use Rattle.points.specs.Help.{topOf, helpEnded, helping, topGood, helpGood}
 
 module _ (last : Bool) (top : ℕ) (q : Process) (s : Stepped) where
   module _ (q1 : Process) (e : q1 ≡ restartedOf q) (f : s ≡ goingOn q1) where
@@ -53,6 +55,13 @@ pub top-clean : (b : List ℕ) (h : Header) (depth top r : ℕ) (v : Pending) (t
 top-clean b h depth top r v t e f = cc
 
 pub ruleset helped = (help-clean, help-replace, help-prune, help-mark, top-clean)
+
+-- what is read on the way: the pending of a word seen, the stack's top
+pub seen-is : (b : List ℕ) (h : Header) (word : ℕ) (v : Pending) (t : Bool) → v ≡ pendingOf word → t ≡ pendingGood b h v → t ≡ pendingGood b h (pendingOf word)
+seen-is b h word v t e f = f ∙ ap (pendingGood b h) e
+
+pub top-is : (b : List ℕ) (h : Header) (n : ℕ) (q : Process) (d top : ℕ) → d ≡ q .depth - 1 → top ≡ stackWord b h n d → top ≡ topOf b h n q
+top-is b h n q d top e f = f ∙ ap (stackWord b h n) e
 
 -- the same of equal records and tops
 pub on-same : (q1 q2 : Process) (s : Stepped) → q1 ≡ q2 → s ≡ goingOn q1 → s ≡ goingOn q2

@@ -7,7 +7,7 @@ use native.Mathlib.Omega.{arith}
 use lib.Dec.{ltb, leb, eqb}
 use lib.ListN.{length, set}
 use borrow.Author.Tests.{leb-true, ltb-true, eqb-false, eq-eqb, le-ltb, lt-leb, not-true}
-use Rattle.tables.specs.Choice.{pick, both}
+use Rattle.tables.specs.Choice.{pick, both, either}
 use Rattle.tables.specs.Layout.{depthOf, stackAt, tagWord, childPlace, pendingPlace}
 use Rattle.tables.specs.Place.{Place, inNode}
 use Rattle.tables.specs.Pending.{wordOf}
@@ -19,7 +19,7 @@ use Rattle.tables.specs.declared.node.Child.the-variants.{Damaged}
 use Rattle.tables.proofs.Picks.{both-1, both-2, pick-true, pick-false, within-low, within-high}
 use Rattle.tables.proofs.Lists.{length-listed}
 use Rattle.process.specs.declared.Process.{Process}
-use Rattle.damage.specs.Fields.{either, numbersGood, nodesGood, usesGood, processGood}
+use Rattle.damage.specs.Fields.{numbersGood, nodesGood, usesGood, processGood}
 use Rattle.damage.specs.Helped.{kindAt, placesGood, recordGood, helpedGood}
 use Rattle.draws.specs.Draw.{roomFor, replaceDrawn, pruneDrawn}
 use Rattle.points.specs.Touch.{Touch, reads, swaps, touchedNode, touchedWord, succeeds, touched, Row}

@@ -34,59 +34,59 @@ use Rattle.points.specs.declared.start.Started.{Started}
 use Rattle.points.proofs.Rowed.{row-not}
 
 module _ (b : List ℕ) (h : Header) (n : ℕ) (q : Process) where
-  row-at-1 : q .point ≡ 1 → rowOf b h n q ≡ row1 b h q
+  pub row-at-1 : q .point ≡ 1 → rowOf b h n q ≡ row1 b h q
   unfolding rowOf pick
   row-at-1 e = rw e refl
 
-  row-at-2 : q .point ≡ 2 → rowOf b h n q ≡ row2 b h q
+  pub row-at-2 : q .point ≡ 2 → rowOf b h n q ≡ row2 b h q
   unfolding rowOf pick
   row-at-2 e = rw e refl
 
-  row-at-3 : q .point ≡ 3 → rowOf b h n q ≡ row3 b h q
+  pub row-at-3 : q .point ≡ 3 → rowOf b h n q ≡ row3 b h q
   unfolding rowOf pick
   row-at-3 e = rw e refl
 
-  row-at-4 : q .point ≡ 4 → rowOf b h n q ≡ row4 b h n q
+  pub row-at-4 : q .point ≡ 4 → rowOf b h n q ≡ row4 b h n q
   unfolding rowOf pick
   row-at-4 e = rw e refl
 
-  row-at-5 : q .point ≡ 5 → rowOf b h n q ≡ row5 b h n q
+  pub row-at-5 : q .point ≡ 5 → rowOf b h n q ≡ row5 b h n q
   unfolding rowOf pick
   row-at-5 e = rw e refl
 
-  row-at-6 : q .point ≡ 6 → rowOf b h n q ≡ row6 b h q
+  pub row-at-6 : q .point ≡ 6 → rowOf b h n q ≡ row6 b h q
   unfolding rowOf pick
   row-at-6 e = rw e refl
 
-  row-at-7 : q .point ≡ 7 → rowOf b h n q ≡ row7 b h q
+  pub row-at-7 : q .point ≡ 7 → rowOf b h n q ≡ row7 b h q
   unfolding rowOf pick
   row-at-7 e = rw e refl
 
-  row-at-8 : q .point ≡ 8 → rowOf b h n q ≡ row8 b h n q
+  pub row-at-8 : q .point ≡ 8 → rowOf b h n q ≡ row8 b h n q
   unfolding rowOf pick
   row-at-8 e = rw e refl
 
-  row-at-9 : q .point ≡ 9 → rowOf b h n q ≡ row9 b h n q
+  pub row-at-9 : q .point ≡ 9 → rowOf b h n q ≡ row9 b h n q
   unfolding rowOf pick
   row-at-9 e = rw e refl
 
-  row-at-10 : q .point ≡ 10 → rowOf b h n q ≡ row10 b h n q
+  pub row-at-10 : q .point ≡ 10 → rowOf b h n q ≡ row10 b h n q
   unfolding rowOf pick
   row-at-10 e = rw e refl
 
-  row-at-11 : q .point ≡ 11 → rowOf b h n q ≡ row11 b h q
+  pub row-at-11 : q .point ≡ 11 → rowOf b h n q ≡ row11 b h q
   unfolding rowOf pick
   row-at-11 e = rw e refl
 
-  row-at-12 : q .point ≡ 12 → rowOf b h n q ≡ row12 b h q
+  pub row-at-12 : q .point ≡ 12 → rowOf b h n q ≡ row12 b h q
   unfolding rowOf pick
   row-at-12 e = rw e refl
 
-  row-at-13 : q .point ≡ 13 → rowOf b h n q ≡ row13 b h q
+  pub row-at-13 : q .point ≡ 13 → rowOf b h n q ≡ row13 b h q
   unfolding rowOf pick
   row-at-13 e = rw e refl
 
-  row-at-14 : q .point ≡ 14 → rowOf b h n q ≡ row14 b h n q
+  pub row-at-14 : q .point ≡ 14 → rowOf b h n q ≡ row14 b h n q
   unfolding rowOf pick
   row-at-14 e = rw e refl
 

@@ -6,7 +6,7 @@ use lib.Bits.{bitOr}
 use lib.Count.{ones}
 use lib.Dec.{ltb, eqb}
 use lib.ListN.{set}
-use Rattle.tables.specs.Choice.{pick, both}
+use Rattle.tables.specs.Choice.{pick, both, either}
 use Rattle.tables.specs.Refusal.{refusal}
 use Rattle.tables.specs.Layout.{depthOf, stackAt, stackWord, tagWord, childPlace, pendingPlace}
 use Rattle.tables.specs.Pending.{wordOf, pendingOf, pendingGood, recordOfKind, pruneKind}
@@ -19,7 +19,6 @@ use Rattle.process.specs.Process.{withPoint, withPSeen, withL, withIndex, withM
 use Rattle.process.specs.Answer.{answer, goingOn, endingOf, refusedAs}
 use Rattle.process.specs.declared.Process.{Process}
 use Rattle.process.specs.declared.Stepped.{Stepped}
-use Rattle.damage.specs.Fields.{either}
 use Rattle.draws.specs.Draw.{newRecord, roomFor, neededNodes, replaceDrawn, pruneDrawn}
 use Rattle.draws.specs.declared.Job.{Job}
 use Rattle.points.specs.Touch.{Touch, reads, swaps, seenBy, succeeds, touched, Row}

@@ -4,6 +4,7 @@ ghost use Rattle.index.specs.Calls.{recordOf, stepOut};
 ghost use Rattle.session.specs.Line.{withinBench, begun, turnOf, did, done, endedBy, refusedBy, makingDone, firstDone, startDone, goesOn, stepsOf, stepsSaid, stepsDone, listDone, laterDone, lineDone, isOver, finished};
 ghost use Rattle.session.specs.declared.line.Said.the-variants.{Refused};
 ghost use Rattle.session.specs.declared.line.Stage.the-variants.{Ended, Made as MadeStage};
+use index::Listed;
 use index::held;
 use index::held::HeldStep;
 use points::start::StartAnswer;
@@ -19,7 +20,6 @@ use tables::choice;
 use tables::fresh::Made;
 use tables::numbers::Refusal;
 use tables::words;
-use walk::Listed;
 
 // "Bench program: at most 8 processes, 512 nodes, 512 records .. more is refused 1."
 pub const BENCH_PROCESSES: u64 = 8;
@@ -219,7 +219,7 @@ fn step_line(block: &mut [u32], row: [Process; 32], s: StepLine) -> Turn
 fn list_all(block: &[u32], list: &mut [u32]) -> Said
     ensures { λ r. ⌜ record { said = r; list = now (list .exit) } ≡ listDone (now (block .entry)) (now (list .entry)) ⌝ }
 {
-    let listed = walk::listing(block, list);
+    let listed = index::listing(block, list);
     match listed {
         Listed::Count(n) => Said::Listed(CountLine {
             count: n,

@@ -4,6 +4,7 @@ pub mod Lists
 pub mod Limits
 pub mod OneToOne
 pub mod Written
+pub mod Stored
 pub mod Keyed
 pub mod Making
 pub mod Places

@@ -3,6 +3,7 @@ use Prim.Native.Nat.{ℕ, zero, suc, _+_, _*_, _-_, _/_, _%_, _≤_, _<_}
 use mathlib.Core.Path.{_≡_, refl, sym, ap, _∙_}
 use mathlib.Core.Bool.{Bool, true, false}
 use mathlib.Core.List.{List, [], _∷_, _++_, map}
+use mathlib.Core.Logic.{_↔_}
 use native.Mathlib.Omega.{arith}
 use native.Mathlib.Nat.{mod-lt, div-add-mod, mul-add-div, mul-add-mod-self-left, div-eq-of-lt, mod-eq-of-lt}
 use lib.ListN.{List·getD-map}
@@ -105,6 +106,15 @@ module _ {A : Type 0} (refusing : ℕ → A) (accepting : A) where
       go true e = refl
       go false e = e
 
+-- a function of what is decided is decided by the same reasons
+module _ {A B : Type 0} (f : A → B) (g : ℕ → A) (h : ℕ → B) (a : A) (e : (n : ℕ) → f (g n) ≡ h n) where
+  told-on : (v : Verdict) → f (told g a v) ≡ told h (f a) v
+  told-on (refused n) = e n
+  told-on accepted = refl
+
+  pub decide-on : (rs : List Reason) → f (decide rs g a) ≡ decide rs h (f a)
+  decide-on rs = ap f (tells g a rs) ∙ told-on (verdict rs) ∙ sym (tells h (f a) rs)
+
 pub refused-first : (n : ℕ) (rs : List Reason) → verdict rs ≡ refused n → First n rs
 unfolding pick
 refused-first n [] e = let z : _≡_ {A = ℕ} 0 1 = cc in absurd (omega arith)
@@ -152,6 +162,31 @@ module _ {A : Type 0} (say : Refusal → A) (accepting : A) (rs : List Reason) (
           let w : within 1 n 11 ≡ true = of-number n f in
           let m : n ≡ numberOf e = sym (number-refusal n (within-low 1 n 11 w) (within-high 1 n 11 w)) ∙ ap numberOf (one (refusal n) b) in
           rw m at f
+
+-- The same of a call that hands back more than an answer: `say` is its answer that refuses, `leave` all that it hands back then, and what it accepts says no refusal.
+module _ {O A : Type 0} (answer : O → A) (say : Refusal → A) (leave : Refusal → O) (accepting : O) (rs : List Reason) (says : (d : Refusal) → answer (leave d) ≡ say d) (one : (d e : Refusal) → say d ≡ say e → d ≡ e)
+    (never : NoneHolds rs → (e : Refusal) → answer accepting ≡ say e → ⊥) (t : numbered rs ≡ true) (e : Refusal) where
+  abbrev call : O
+  call = decide rs (λ n. leave (refusal n)) accepting
+
+  pub call-first : answer call ≡ say e → First (numberOf e) rs
+  call-first a = go (verdict rs) refl
+    where
+      go : (v : Verdict) → verdict rs ≡ v → First (numberOf e) rs
+      go accepted v =
+          let n : NoneHolds rs = accepted-none rs v in
+          absurd (never n e (sym (ap answer (none-accepts (λ m. leave (refusal m)) accepting rs n)) ∙ a))
+      go (refused m) v =
+          let f : First m rs = refused-first m rs v in
+          let d : refusal m ≡ e = one (refusal m) e (sym (says (refusal m)) ∙ sym (ap answer (first-refuses (λ i. leave (refusal i)) accepting m rs f)) ∙ a) in
+          answers-first (λ x. x ∷ []) [] rs e (λ x p. cc) (λ p. let z : _≡_ {A = ℕ} 0 1 = cc in omega arith) t
+          (first-refuses (λ i. refusal i ∷ []) [] m rs f ∙ ap (λ (x : Refusal). x ∷ []) d)
+
+  pub call-leaves : answer call ≡ say e → call ≡ leave e
+  call-leaves a = first-answers leave accepting rs e (call-first a)
+
+  pub call-exactly : (answer call ≡ say e) ↔ First (numberOf e) rs
+  call-exactly = (call-first, λ f. ap answer (first-answers leave accepting rs e f) ∙ says e)
 
 -- this crate's calls that refuse
 pub read-refused : (b : List ℕ) (e : Refusal) → headerRead b ≡ Refused e → First (numberOf e) (blockReasons b)

@@ -1,6 +1,6 @@
 -- Laws of `pick`, `both`, `within`, and the rules by which a search proves a function with one or two tests.
 use Prim.Native.Nat.{ℕ, _≤_}
-use mathlib.Core.Path.{_≡_, refl, sym, subst}
+use mathlib.Core.Path.{_≡_, refl, sym, subst, _∙_}
 use mathlib.Core.Bool.{Bool, true, false}
 use lib.Dec.{T}
 use borrow.Author.Tests.{lt-ltb, le-ltb, le-leb, lt-leb, eq-eqb, ne-eqb, leb-true}
@@ -15,6 +15,10 @@ pub both-2 : (a b : Bool) → both a b ≡ true → b ≡ true
 unfolding both
 both-2 true b e = e
 both-2 false b e = absurd (subst (λ (t : Bool). T t) (sym e) tt)
+
+-- two tests that are known, put together
+pub both-of : (s t x y u : Bool) → u ≡ both s t → s ≡ x → t ≡ y → u ≡ both x y
+both-of s t x y u e f g = e ∙ rw (f, g) refl
 
 pub pick-true : {A : Type 0} (t : Bool) (a b : A) → t ≡ true → pick t a b ≡ a
 unfolding pick

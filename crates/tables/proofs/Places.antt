@@ -58,6 +58,16 @@ areaOf (inNode n o) = 1
 areaOf (inRecord r f) = 2
 areaOf (inStack q d) = 3
 
+-- places of different areas
+pub header-node : (i n o : ℕ) → inHeader i ≡ inNode n o → ⊥
+header-node i n o e = let z : _≡_ {A = ℕ} 0 1 = ap areaOf e in omega arith
+
+pub header-record : (i r f : ℕ) → inHeader i ≡ inRecord r f → ⊥
+header-record i r f e = let z : _≡_ {A = ℕ} 0 2 = ap areaOf e in omega arith
+
+pub node-record : (n o r f : ℕ) → inNode n o ≡ inRecord r f → ⊥
+node-record n o r f e = let z : _≡_ {A = ℕ} 1 2 = ap areaOf e in omega arith
+
 abbrev rowOf : Place → ℕ
 rowOf (inHeader i) = 1
 rowOf (inNode n o) = n

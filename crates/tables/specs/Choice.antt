@@ -15,6 +15,10 @@ unfoldable pub both : Bool → Bool → Bool
 both true b = b
 both false b = false
 
+-- at least one of two tests holds
+abbrev pub either : Bool → Bool → Bool
+either s t = pick s true t
+
 -- x lies from lo to hi, ends included
 abbrev pub within : ℕ → ℕ → ℕ → Bool
 within lo x hi = both (leb lo x) (leb x hi)

@@ -6,14 +6,14 @@ use mathlib.Core.List.{List, [], _∷_, List·Memᴰ, List·Memᴰ·head, List·
 use native.Mathlib.Omega.{arith}
 use borrow.Author.Tests.{le-leb}
 use lib.ListN.{length, take}
-use Rattle.tables.specs.Choice.{pick, both, within, Verdict, refused, accepted, verdict, told, NoneHolds, First}
+use Rattle.tables.specs.Choice.{pick, both, either, within, Verdict, refused, accepted, verdict, told, NoneHolds, First}
 use Rattle.tables.specs.Refusal.{numberOf, refusal}
 use Rattle.tables.specs.Fresh.{overFront}
 use Rattle.tables.specs.declared.numbers.Refusal.{Refusal}
 use Rattle.tables.proofs.OneToOne.{refusal-number, none-accepts, tells, accepted-none, first-answers, answers-first}
 use Rattle.tables.proofs.Picks.{within-low, within-high}
 use Rattle.walk.specs.Answer.{answered, refusedBy, listedSays, clearedSays, cleared}
-use Rattle.walk.specs.Calls.{keysMet, listReasons, ListOut, listOut, listOf, partOf, either, anyWithin, rangeReasons, rangeOf}
+use Rattle.walk.specs.Calls.{keysMet, listReasons, ListOut, listOut, listOf, partOf, anyWithin, rangeReasons, rangeOf}
 use Rattle.walk.specs.Passes.{filledOf}
 use Rattle.walk.specs.declared.Listed.{Listed}
 use Rattle.walk.specs.declared.Listed.the-variants.{Count, Refused as ListRefused}

@@ -7,7 +7,7 @@ use native.Mathlib.Omega.{arith}
 use native.Mathlib.Numerals.{add-one}
 use lib.ListN.{length, set, length-append}
 use lib.Seq.{sets, length-sets}
-use Rattle.tables.specs.Choice.{pick, both, within, listed}
+use Rattle.tables.specs.Choice.{pick, both, either, within, listed}
 use Rattle.tables.specs.Layout.{keyWord}
 use Rattle.tables.specs.Keys.{keysOf, rises}
 use Rattle.tables.specs.Node.{kinOf, childOf}
@@ -18,7 +18,7 @@ use Rattle.tables.specs.declared.node.Child.{Child}
 use Rattle.tables.specs.declared.node.Child.the-variants.{Node, Damaged}
 use Rattle.tables.proofs.Keyed.{keys-length}
 use Rattle.walk.specs.Walk.{Walk, begin, damaged, leafMet, metFrom, walked}
-use Rattle.walk.specs.Calls.{either, anyWithin}
+use Rattle.walk.specs.Calls.{anyWithin}
 use Rattle.walk.specs.Passes.{Roomy, measureOf, measured, spentMeter, damagedMeter, spentFilling, Measured, Filled}
 use Rattle.walk.specs.declared.meter.Meter.{Meter}
 use Rattle.walk.specs.declared.fill.Filling.{Filling}

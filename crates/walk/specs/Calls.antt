@@ -4,7 +4,7 @@ use mathlib.Core.Bool.{Bool, true, false, not}
 use mathlib.Core.List.{List, [], _∷_, _++_}
 use lib.Dec.{ltb, eqb}
 use lib.ListN.{length}
-use Rattle.tables.specs.Choice.{pick, within, Reason, reason, decide}
+use Rattle.tables.specs.Choice.{pick, either, within, Reason, reason, decide}
 use Rattle.tables.specs.Numbers.{infinity}
 use Rattle.tables.specs.Refusal.{refusal}
 use Rattle.tables.specs.Header.{headerOf, blockReasons}
@@ -45,10 +45,6 @@ listOf b list =
 -- "a twin call does the same and hands back the filled part of the caller's list, empty if refused"
 abbrev pub partOf : List ℕ → List ℕ → List ℕ
 partOf b list = decide (listReasons b (length list)) (λ n. []) (keysMet b)
-
--- at least one of two tests holds
-abbrev pub either : Bool → Bool → Bool
-either s t = pick s true t
 
 -- a key lies from low to high, ends included
 unfoldable pub anyWithin : ℕ → ℕ → List ℕ → Bool

@@ -5,13 +5,13 @@ use mathlib.Core.Bool.{false}
 use mathlib.Core.List.{List}
 use lib.ListN.{length}
 use lib.Seq.{sets}
-use Rattle.tables.specs.Choice.{pick, both, decide}
+use Rattle.tables.specs.Choice.{pick, both, either, decide}
 use Rattle.tables.specs.Refusal.{refusal}
 use Rattle.tables.specs.Fresh.{overFront}
 use Rattle.tables.specs.declared.header.Header.{Header}
 use Rattle.walk.specs.Walk.{Walk, walked}
 use Rattle.walk.specs.Answer.{cleared}
-use Rattle.walk.specs.Calls.{ListOut, listOut, listRest, either, anyWithin, rangeRest}
+use Rattle.walk.specs.Calls.{ListOut, listOut, listRest, anyWithin, rangeRest}
 use Rattle.walk.specs.declared.meter.Meter.{Meter}
 use Rattle.walk.specs.declared.fill.Filling.{Filling}
 use Rattle.walk.specs.declared.Listed.{Listed}

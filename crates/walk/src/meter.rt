@@ -4,7 +4,6 @@ ghost use Prim.Native.Nat.{_-_, _<_};
 ghost use Rattle.tables.specs.Keys.{keysOf};
 ghost use Rattle.walk.specs.Walk.{begin, leafMet, metFrom, walked};
 ghost use Rattle.walk.specs.Calls.{anyWithin};
-ghost use Rattle.walk.specs.Calls.{either as eitherOf};
 ghost use Rattle.walk.specs.Passes.{Roomy, measureOf, Measured, spentMeter, damagedMeter};
 use tables::choice;
 use tables::header;
@@ -22,12 +21,6 @@ pub struct Meter {
     pub sound: bool,
 }
 
-fn either(a: bool, b: bool) -> bool
-    ensures { λ r. ⌜ r ≡ eitherOf a b ⌝ }
-{
-    if a { true } else { b }
-}
-
 // Whether one of a leaf's keys lies from low to high.
 fn leaf_within(block: &[u32], h: Header, node: u32, count: u8, low: u32, high: u32) -> bool
     ensures { λ r. ⌜ r ≡ anyWithin low high (keysOf (now (block .entry)) h node count) ⌝ }
@@ -38,7 +31,7 @@ fn leaf_within(block: &[u32], h: Header, node: u32, count: u8, low: u32, high: u
     while i < n {
         let key = header::key_word(block, h, node, i + 1);
         let inside = choice::within(low as u64, key as u64, high as u64);
-        found = either(found, inside);
+        found = choice::or(found, inside);
         i += 1;
     }
     found
@@ -62,7 +55,7 @@ fn measure_leaf(
     Meter {
         allowed: m.allowed - 1,
         count: m.count + (count as u32),
-        found: either(m.found, found),
+        found: choice::or(m.found, found),
         sound: choice::and(m.sound, rises),
     }
 }

@@ -1,5 +1,6 @@
 -- The proof that `fields::no_or_internal` keeps its contract.
 use borrow.Author.Needs.{needs}
+use Rattle.damage.proofs.Laws.{zero-internal}
 use Rattle.damage.proofs.fields.no_or_internal.Statement.{statement}
 use Rattle.damage.proofs.fields.no_or_internal.Tie as tie
 
@@ -10,5 +11,5 @@ no-or-internal-spec =
     (λ c κs. search needs)  -- kin-of-requires
     (λ c κs. search needs)  -- is-internal-requires
     (λ c κs. search needs)  -- zero-or-requires
-    (λ c. cc)  -- returns
+    (λ c. search zero-internal)  -- returns
     )

@@ -1,5 +1,6 @@
 -- The proof that `fields::no_or_leaf` keeps its contract.
 use borrow.Author.Needs.{needs}
+use Rattle.damage.proofs.Laws.{zero-leaf}
 use Rattle.damage.proofs.fields.no_or_leaf.Statement.{statement}
 use Rattle.damage.proofs.fields.no_or_leaf.Tie as tie
 
@@ -10,5 +11,5 @@ no-or-leaf-spec =
     (λ c κs. search needs)  -- kin-of-requires
     (λ c κs. search needs)  -- is-leaf-requires
     (λ c κs. search needs)  -- zero-or-requires
-    (λ c. cc)  -- returns
+    (λ c. search zero-leaf)  -- returns
     )

@@ -1,5 +1,6 @@
 -- The proof that `fields::no_or_node` keeps its contract.
 use borrow.Author.Needs.{needs}
+use Rattle.damage.proofs.Laws.{zero-node}
 use Rattle.damage.proofs.fields.no_or_node.Statement.{statement}
 use Rattle.damage.proofs.fields.no_or_node.Tie as tie
 
@@ -10,5 +11,5 @@ no-or-node-spec =
     (λ c κs. search needs)  -- kin-of-requires
     (λ c κs. search needs)  -- is-node-requires
     (λ c κs. search needs)  -- zero-or-requires
-    (λ c. cc)  -- returns
+    (λ c. search zero-node)  -- returns
     )

@@ -1,6 +1,7 @@
 -- The proof that `fields::nodes_good` keeps its contract.
 use borrow.Author.Needs.{needs}
 use Rattle.damage.specs.Fields.{nodesGood}
+use Rattle.damage.proofs.Laws.{kinds}
 use Rattle.damage.proofs.fields.nodes_good.Statement.{statement}
 use Rattle.damage.proofs.fields.nodes_good.Tie as tie
 
@@ -17,5 +18,5 @@ nodes-good-spec =
     (λ c κs. search needs)  -- and-requires
     (λ c κs. search needs)  -- and-requires-2
     (λ c κs. search needs)  -- and-requires-3
-    (λ c. cc)  -- returns
+    (λ c. search kinds)  -- returns
     )

@@ -1,5 +1,6 @@
 -- The proof that `fields::numbers_good` keeps its contract.
 use borrow.Author.Needs.{needs}
+use Rattle.tables.proofs.Picks.{both-of}
 use Rattle.damage.specs.Fields.{numbersGood}
 use Rattle.damage.proofs.fields.numbers_good.Statement.{statement}
 use Rattle.damage.proofs.fields.numbers_good.Tie as tie
@@ -23,5 +24,5 @@ numbers-good-spec =
     (λ c κs. search needs)  -- and-requires-3
     (λ c κs. search needs)  -- and-requires-4
     (λ c κs. search needs)  -- and-requires-5
-    (λ c. cc)  -- returns
+    (λ c. search both-of)  -- returns
     )

@@ -1,5 +1,6 @@
 -- The proof that `fields::records_good` keeps its contract.
 use borrow.Author.Needs.{needs}
+use Rattle.tables.proofs.Picks.{both-of}
 use Rattle.damage.specs.Fields.{recordsGood}
 use Rattle.damage.proofs.fields.records_good.Statement.{statement}
 use Rattle.damage.proofs.fields.records_good.Tie as tie
@@ -16,5 +17,5 @@ records-good-spec =
     (λ c κs. search needs)  -- and-requires
     (λ c κs. search needs)  -- and-requires-2
     (λ c κs. search needs)  -- and-requires-3
-    (λ c. cc)  -- returns
+    (λ c. search both-of)  -- returns
     )

@@ -1,6 +1,7 @@
 -- The proof that `fields::uses_good` keeps its contract.
 use borrow.Author.Needs.{needs}
 use Rattle.damage.specs.Fields.{usesGood}
+use Rattle.damage.proofs.Laws.{uses}
 use Rattle.damage.proofs.fields.uses_good.Statement.{statement}
 use Rattle.damage.proofs.fields.uses_good.Tie as tie
 
@@ -23,5 +24,5 @@ uses-good-spec =
     (λ c κs. search needs)  -- and-requires-3
     (λ c κs. search needs)  -- and-requires-4
     (λ c κs. search needs)  -- and-requires-5
-    (λ c. cc)  -- returns
+    (λ c. search uses)  -- returns
     )

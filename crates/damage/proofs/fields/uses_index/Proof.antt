@@ -9,7 +9,7 @@ uses-index-spec =
     (tie.spec
     (λ c κs. search needs)  -- within-requires
     (λ c κs. search needs)  -- within-requires-2
-    (λ c κs. search needs)  -- either-requires
-    (λ c κs. search needs)  -- either-requires-2
+    (λ c κs. search needs)  -- or-requires
+    (λ c κs. search needs)  -- or-requires-2
     (λ c. cc)  -- returns
     )

@@ -1,5 +1,6 @@
 -- The proof that `helped::owner_good` keeps its contract.
 use borrow.Author.Needs.{needs}
+use Rattle.damage.proofs.Laws.{owners}
 use Rattle.damage.proofs.helped.owner_good.Statement.{statement}
 use Rattle.damage.proofs.helped.owner_good.Tie as tie
 
@@ -20,5 +21,5 @@ owner-good-spec =
     (λ c κs. search needs)  -- within-requires-2
     (λ c κs. search needs)  -- and-requires
     (λ c κs. search needs)  -- and-requires-2
-    (λ c. cc)  -- returns
+    (λ c. search owners)  -- returns
     )

@@ -1,5 +1,6 @@
 -- The proof that `helped::places_good` keeps its contract.
 use borrow.Author.Needs.{needs}
+use Rattle.damage.proofs.Laws.{kinds}
 use Rattle.damage.proofs.helped.places_good.Statement.{statement}
 use Rattle.damage.proofs.helped.places_good.Tie as tie
 
@@ -16,5 +17,5 @@ places-good-spec =
     (λ c κs. search needs)  -- third-good-requires
     (λ c κs. search needs)  -- and-requires
     (λ c κs. search needs)  -- and-requires-2
-    (λ c. cc)  -- returns
+    (λ c. search kinds)  -- returns
     )

@@ -1,5 +1,6 @@
 -- The proof that `finish::flag_sound` keeps its contract.
 use borrow.Author.Needs.{needs}
+use Rattle.points.proofs.Finishes.{unflag-tests}
 use Rattle.points.proofs.finish.flag_sound.Statement.{statement}
 use Rattle.points.proofs.finish.flag_sound.Tie as tie
 
@@ -11,5 +12,5 @@ flag-sound-spec =
     (λ c κs. search needs)  -- seen-good-requires
     (λ c κs. search needs)  -- top-good-requires
     (λ c κs. search needs)  -- and-requires
-    (λ c. cc)  -- returns
+    (λ c. search unflag-tests)  -- returns
     )

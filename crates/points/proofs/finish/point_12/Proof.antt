@@ -1,6 +1,7 @@
 -- The proof that `finish::point_12` keeps its contract.
 use borrow.Author.Needs.{needs}
 use Rattle.points.specs.Rows.{row12}
+use Rattle.points.proofs.Finishes.{look-at}
 use Rattle.points.proofs.finish.point_12.Statement.{statement}
 use Rattle.points.proofs.finish.point_12.Tie as tie
 
@@ -12,5 +13,5 @@ point-12-spec =
     (λ c κs. search needs)  -- helped-third-requires
     (λ c κs. search needs)  -- helped-p-requires
     (λ c κs. search needs)  -- look-requires
-    (λ c. cc)  -- returns
+    (λ c. search look-at)  -- returns
     )

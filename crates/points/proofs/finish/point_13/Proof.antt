@@ -1,6 +1,7 @@
 -- The proof that `finish::point_13` keeps its contract.
 use borrow.Author.Needs.{needs}
 use Rattle.points.specs.Rows.{row13}
+use Rattle.points.proofs.Finishes.{hang-at}
 use Rattle.points.proofs.finish.point_13.Statement.{statement}
 use Rattle.points.proofs.finish.point_13.Tie as tie
 
@@ -13,5 +14,5 @@ point-13-spec =
     (λ c κs. search needs)  -- helped-p-requires
     (λ c κs. search needs)  -- hang-requires
     (λ c. search needs)  -- same-length
-    (λ c. cc)  -- returns
+    (λ c. search hang-at)  -- returns
     )

@@ -1,6 +1,7 @@
 -- The proof that `finish::point_14` keeps its contract.
 use borrow.Author.Needs.{needs}
 use Rattle.points.specs.Rows.{row14}
+use Rattle.points.proofs.Finishes.{unflag-at}
 use Rattle.points.proofs.finish.point_14.Statement.{statement}
 use Rattle.points.proofs.finish.point_14.Tie as tie
 
@@ -12,5 +13,5 @@ point-14-spec =
     (λ c κs. search needs)  -- helped-third-requires
     (λ c κs. search needs)  -- unflag-requires
     (λ c. search needs)  -- same-length
-    (λ c. cc)  -- returns
+    (λ c. search unflag-at)  -- returns
     )

@@ -1,6 +1,7 @@
 -- The proof that `finish::point_7` keeps its contract.
 use borrow.Author.Needs.{needs}
 use Rattle.points.specs.Rows.{row7}
+use Rattle.points.proofs.Finishes.{hang-at}
 use Rattle.points.proofs.finish.point_7.Statement.{statement}
 use Rattle.points.proofs.finish.point_7.Tie as tie
 
@@ -14,5 +15,5 @@ point-7-spec =
     (λ c κs. search needs)  -- helped-third-requires
     (λ c κs. search needs)  -- hang-requires
     (λ c. search needs)  -- same-length
-    (λ c. cc)  -- returns
+    (λ c. search hang-at)  -- returns
     )

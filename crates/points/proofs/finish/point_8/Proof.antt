@@ -1,6 +1,7 @@
 -- The proof that `finish::point_8` keeps its contract.
 use borrow.Author.Needs.{needs}
 use Rattle.points.specs.Rows.{row8}
+use Rattle.points.proofs.Finishes.{unflag-at}
 use Rattle.points.proofs.finish.point_8.Statement.{statement}
 use Rattle.points.proofs.finish.point_8.Tie as tie
 
@@ -12,5 +13,5 @@ point-8-spec =
     (λ c κs. search needs)  -- helped-p-requires
     (λ c κs. search needs)  -- unflag-requires
     (λ c. search needs)  -- same-length
-    (λ c. cc)  -- returns
+    (λ c. search unflag-at)  -- returns
     )

@@ -1,5 +1,6 @@
 -- The proof that `finish::pop_good` keeps its contract.
 use borrow.Author.Needs.{needs}
+use Rattle.points.proofs.Finishes.{pop-kinds}
 use Rattle.points.proofs.finish.pop_good.Statement.{statement}
 use Rattle.points.proofs.finish.pop_good.Tie as tie
 
@@ -12,5 +13,5 @@ pop-good-spec =
     (λ c κs. search needs)  -- prev-requires
     (λ c κs. search needs)  -- top-good-requires
     (λ c κs. search needs)  -- and-requires
-    (λ c. cc)  -- returns
+    (λ c. search pop-kinds)  -- returns
     )

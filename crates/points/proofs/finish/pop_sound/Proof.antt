@@ -1,5 +1,6 @@
 -- The proof that `finish::pop_sound` keeps its contract.
 use borrow.Author.Needs.{needs}
+use Rattle.tables.proofs.Picks.{both-of}
 use Rattle.points.proofs.finish.pop_sound.Statement.{statement}
 use Rattle.points.proofs.finish.pop_sound.Tie as tie
 
@@ -10,5 +11,5 @@ pop-sound-spec =
     (λ c κs. search needs)  -- seen-good-requires
     (λ c κs. search needs)  -- pop-good-requires
     (λ c κs. search needs)  -- and-requires
-    (λ c. cc)  -- returns
+    (λ c. search both-of)  -- returns
     )

@@ -1,5 +1,6 @@
 -- The proof that `finish::popped` keeps its contract.
 use borrow.Author.Needs.{needs}
+use Rattle.points.proofs.Finishes.{popped-is}
 use Rattle.points.proofs.finish.popped.Statement.{statement}
 use Rattle.points.proofs.finish.popped.Tie as tie
 
@@ -10,5 +11,5 @@ popped-spec =
     (λ c κs. search needs)  -- prev-requires
     (λ c κs. search needs)  -- with-depth-requires
     (λ c κs. search needs)  -- help-ended-requires
-    (λ c. cc)  -- returns
+    (λ c. search popped-is)  -- returns
     )

@@ -1,5 +1,6 @@
 -- The proof that `finish::under_top` keeps its contract.
 use borrow.Author.Needs.{needs}
+use Rattle.points.proofs.Finishes.{under-is}
 use Rattle.points.proofs.finish.under_top.Statement.{statement}
 use Rattle.points.proofs.finish.under_top.Tie as tie
 
@@ -10,5 +11,5 @@ under-top-spec =
     (λ c κs. search needs)  -- prev-requires
     (λ c κs. search needs)  -- prev-requires-2
     (λ c κs. search needs)  -- stack-word-requires
-    (λ c. cc)  -- returns
+    (λ c. search under-is)  -- returns
     )

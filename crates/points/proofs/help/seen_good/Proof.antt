@@ -1,5 +1,6 @@
 -- The proof that `help::seen_good` keeps its contract.
 use borrow.Author.Needs.{needs}
+use Rattle.points.proofs.Helps.{seen-is}
 use Rattle.points.proofs.help.seen_good.Statement.{statement}
 use Rattle.points.proofs.help.seen_good.Tie as tie
 
@@ -9,5 +10,5 @@ seen-good-spec =
     (tie.spec
     (λ c κs. search needs)  -- pending-of-requires
     (λ c κs. search needs)  -- pending-good-requires
-    (λ c. cc)  -- returns
+    (λ c. search seen-is)  -- returns
     )

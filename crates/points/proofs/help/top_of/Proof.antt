@@ -1,5 +1,6 @@
 -- The proof that `help::top_of` keeps its contract.
 use borrow.Author.Needs.{needs}
+use Rattle.points.proofs.Helps.{top-is}
 use Rattle.points.proofs.help.top_of.Statement.{statement}
 use Rattle.points.proofs.help.top_of.Tie as tie
 
@@ -9,5 +10,5 @@ top-of-spec =
     (tie.spec
     (λ c κs. search needs)  -- prev-requires
     (λ c κs. search needs)  -- stack-word-requires
-    (λ c. cc)  -- returns
+    (λ c. search top-is)  -- returns
     )

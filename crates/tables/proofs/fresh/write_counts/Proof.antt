@@ -1,5 +1,6 @@
 -- The proof that `fresh::write_counts` keeps its contract.
 use borrow.Author.Needs.{needs}
+use Rattle.tables.proofs.Stored.{three-stored}
 use Rattle.tables.proofs.fresh.write_counts.Statement.{statement}
 use Rattle.tables.proofs.fresh.write_counts.Tie as tie
 
@@ -14,5 +15,5 @@ write-counts-spec =
     (λ c. search needs)  -- cast-put-at-3
     (λ c κs. search needs)  -- put-at-requires-3
     (λ c. search needs)  -- same-length
-    (λ c. cc)  -- returns
+    (λ c. search three-stored)  -- returns
     )

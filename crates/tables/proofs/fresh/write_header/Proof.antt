@@ -1,5 +1,6 @@
 -- The proof that `fresh::write_header` keeps its contract.
 use borrow.Author.Needs.{needs}
+use Rattle.tables.proofs.Stored.{halves-stored}
 use Rattle.tables.proofs.fresh.write_header.Statement.{statement}
 use Rattle.tables.proofs.fresh.write_header.Tie as tie
 
@@ -10,5 +11,5 @@ write-header-spec =
     (λ c κs. search needs)  -- write-numbers-requires
     (λ c κs. search needs)  -- write-counts-requires
     (λ c. search needs)  -- same-length
-    (λ c. cc)  -- returns
+    (λ c. search halves-stored)  -- returns
     )

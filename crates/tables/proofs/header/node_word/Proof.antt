@@ -1,5 +1,6 @@
 -- The proof that `header::node_word` keeps its contract.
 use borrow.Author.Needs.{needs}
+use Rattle.tables.proofs.Stored.{word-is}
 use Rattle.tables.proofs.header.node_word.Statement.{statement}
 use Rattle.tables.proofs.header.node_word.Tie as tie
 
@@ -9,5 +10,5 @@ node-word-spec =
     (tie.spec
     (λ c κs. search needs)  -- node-at-requires
     (λ c κs. search needs)  -- word-at-requires
-    (λ c. cc)  -- returns
+    (λ c. search word-is)  -- returns
     )

@@ -1,5 +1,6 @@
 -- The proof that `node::child_of` keeps its contract.
 use borrow.Author.Needs.{needs}
+use Rattle.tables.proofs.Stored.{child-is}
 use Rattle.tables.proofs.node.child_of.Statement.{statement}
 use Rattle.tables.proofs.node.child_of.Tie as tie
 
@@ -9,5 +10,5 @@ child-of-spec =
     (tie.spec
     (λ c κs. search needs)  -- child-word-requires
     (λ c κs. search needs)  -- below-of-requires
-    (λ c. cc)  -- returns
+    (λ c. search child-is)  -- returns
     )

@@ -1,5 +1,6 @@
 -- The proof that `node::node_good` keeps its contract.
 use borrow.Author.Needs.{needs}
+use Rattle.tables.proofs.Picks.{both-of}
 use Rattle.tables.proofs.node.node_good.Statement.{statement}
 use Rattle.tables.proofs.node.node_good.Tie as tie
 
@@ -12,5 +13,5 @@ node-good-spec =
     (λ c. search needs)  -- cast-at-most
     (λ c κs. search needs)  -- at-most-requires
     (λ c κs. search needs)  -- and-requires
-    (λ c. cc)  -- returns
+    (λ c. search both-of)  -- returns
     )

@@ -1,5 +1,6 @@
 -- The proof that `pending::record_of_kind` keeps its contract.
 use borrow.Author.Needs.{needs}
+use Rattle.tables.proofs.Stored.{kind-is}
 use Rattle.tables.proofs.pending.record_of_kind.Statement.{statement}
 use Rattle.tables.proofs.pending.record_of_kind.Tie as tie
 
@@ -12,5 +13,5 @@ record-of-kind-spec =
     (λ c. search needs)  -- cast-same
     (λ c κs. search needs)  -- same-requires
     (λ c κs. search needs)  -- and-requires
-    (λ c. cc)  -- returns
+    (λ c. search kind-is)  -- returns
     )

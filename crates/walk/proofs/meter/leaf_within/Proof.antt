@@ -25,7 +25,7 @@ leaf-within-spec =
     (λ c κs. search needs)  -- key-word-requires
     (λ c. search needs)  -- cast-within
     (λ c κs. search needs)  -- within-requires
-    (λ c κs. search needs)  -- either-requires
+    (λ c κs. search needs)  -- or-requires
     (λ c. search needs)  -- add-i
     (λ c. search needs)  -- loop-less
     (λ c. (search needs, search within-more))  -- loop-again

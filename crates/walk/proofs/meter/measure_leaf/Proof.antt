@@ -12,7 +12,7 @@ measure-leaf-spec =
     (λ c κs. search needs)  -- rises-requires
     (λ c. search needs)  -- sub-t10
     (λ c. search needs)  -- add-t12
-    (λ c κs. search needs)  -- either-requires
+    (λ c κs. search needs)  -- or-requires
     (λ c κs. search needs)  -- and-requires
     (λ c. search leaf-measured)  -- returns
     )

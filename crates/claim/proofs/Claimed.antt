@@ -1,0 +1,358 @@
+-- The claim holds of every reached state: clause by clause from what link proves.
+use Prim.Native.Nat.{ℕ, suc, _+_, _-_, _≤_, _<_}
+use mathlib.Core.Path.{_≡_, refl, sym, ap, _∙_, subst}
+use mathlib.Core.Logic.{_≢_, _⊎_, inl, inr, _↔_}
+use mathlib.Core.List.{List, List·Memᴰ}
+use native.Mathlib.Omega.{arith}
+use native.Mathlib.Decide.{decLe, decLt}
+use lib.ListN.{getD}
+use Rattle.tables.specs.Numbers.{infinity}
+use Rattle.tables.specs.Refusal.{numberOf}
+use Rattle.tables.specs.Layout.{blockWords}
+use Rattle.tables.specs.declared.numbers.Refusal.{Refusal}
+use Rattle.tables.specs.declared.numbers.Refusal.the-variants.{NoSuchProcess, Idle}
+use Rattle.process.specs.declared.Answer.{Answer}
+use Rattle.process.specs.declared.Answer.the-variants.{No, Yes, Full}
+use Rattle.process.specs.declared.StepAnswer.the-variants as steps
+use Rattle.process.specs.Process.{startedAs}
+use Rattle.points.specs.Rows.{rowOf}
+use Rattle.walk.specs.Calls.{keysMet, rangeOf}
+use Rattle.walk.specs.declared.Cleared.the-variants as cleared
+use Rattle.history.specs.View.{In, route, keys, Reach, Below, Holds}
+use Rattle.history.specs.Shared.{Desc, Shared}
+use Rattle.history.specs.Change.{Drawn, put-leaf, out-leaf, sprout, draw-replace, draw-prune, swap-replace, unflag-replace, mark, swap-prune, unflag-prune}
+use Rattle.history.specs.Effects.{SameSet, SetMoves, adds, removes, Moved, swaps}
+use Rattle.history.specs.Run.{Step, changes, rests, step-swaps, Moment}
+use Rattle.link.specs.Events.{Event, start, step, State, taken, stepIn, eventAt, stateAt, blockAt, headerAt, sinceAt}
+use Rattle.link.specs.Swaps.{ChildSwap}
+use Rattle.link.specs.Operations.{Started, BusyWith, OperationOf, Answered}
+use Rattle.link.specs.Sets.{tablesAt, viewAt, InSet}
+use Rattle.link.proofs.Moments.{Why, no-room, found, missing, there, not-there, did}
+use Rattle.link.proofs.Clauses as link
+use Rattle.link.proofs.Clauses.{Reached, k-at, step-at}
+use Rattle.link.proofs.Beyond.{step-behind}
+use Rattle.link.proofs.Reached.{state-next, taken-other, state-is}
+use Rattle.link.proofs.Outcomes.{Outcome, nothing as still, begun, moved, outcome}
+use Rattle.link.proofs.Story.{Story, story}
+use Rattle.link.proofs.Answers as told-of
+use Rattle.link.proofs.Answers.{told, Drawn as DrawnSince}
+use Rattle.link.proofs.Origins.{Comes, comes}
+use Rattle.survey.proofs.Clauses as survey
+use Rattle.claim.proofs.Operations.{start-same, since-start, since-between, busy-is, one-operation, its-operation, draws-it, still-busy, drawn-late, ended, started-place}
+use Rattle.claim.specs.Claim.{Claim, Listing, Range, clear, met, Changes, put-in, taken-out, SwapOf, Drawing, nothing, a-leaf, a-sprout, a-prune}
+
+module _ {s : State} {es : List Event} (reached : Reached s es) where
+  abbrev W : ℕ → State
+  W = stateAt s es
+
+  abbrev S : ℕ → Shared
+  S = tablesAt s es
+
+  abbrev k : ℕ
+  k = headerAt s es 0 .k
+
+  -- the set by the k of the whole run, and by that of its moment
+  in-set : (m x : ℕ) → Holds k (S m .view) x → InSet s es m x
+  in-set m x = subst (λ (y : ℕ). Holds y (S m .view) x) (sym (k-at reached m))
+
+  of-set : (m x : ℕ) → InSet s es m x → Holds k (S m .view) x
+  of-set m x = subst (λ (y : ℕ). Holds y (S m .view) x) (k-at reached m)
+
+  kept : (m y : ℕ) → Holds k (S m .view) y ↔ Holds k (S (suc m) .view) y → InSet s es m y ↔ InSet s es (suc m) y
+  kept m y e = (λ a. in-set (suc m) y (e .0 (of-set m y a)), λ a. in-set m y (e .1 (of-set (suc m) y a)))
+
+  step-refused : (m n : ℕ) (e : Refusal) → stepIn (W m) n .answer ≡ steps.Refused e → (numberOf e ≡ 4) ⊎ (numberOf e ≡ 8)
+  step-refused m n e z = go (link.step-refused reached m n e z)
+    where
+      go : (e ≡ NoSuchProcess) ⊎ (e ≡ Idle) → (numberOf e ≡ 4) ⊎ (numberOf e ≡ 8)
+      go (inl a) = inl (ap numberOf a)
+      go (inr a) = inr (ap numberOf a)
+
+  search-order : (m n i l x : ℕ) → Reach (headerAt s es m .k) (viewAt s es m) n → viewAt s es m .tag n ≡ headerAt s es m .k → In (headerAt s es m .k) i
+      → Below (headerAt s es m .k) (viewAt s es m) (viewAt s es m .child n i) l → viewAt s es m .tag l ≢ headerAt s es m .k
+      → List·Memᴰ x (keys (viewAt s es m) l) → route (headerAt s es m .k) (viewAt s es m .key n) x ≡ i
+  search-order m =
+      subst (λ (y : ℕ). (n i l x : ℕ) → Reach y (viewAt s es m) n → viewAt s es m .tag n ≡ y → In y i → Below y (viewAt s es m) (viewAt s es m .child n i) l
+      → viewAt s es m .tag l ≢ y → List·Memᴰ x (keys (viewAt s es m) l) → route y (viewAt s es m .key n) x ≡ i) (sym (k-at reached m)) (link.search-order reached m)
+
+  words-stay : (m : ℕ) → ((r : ℕ) → ¬ ChildSwap s es m r) → (n i : ℕ) → In (S m .nodes) n → In (headerAt s es m .k) i → S (suc m) .view .child n i ≡ S m .view .child n i
+  words-stay m f n i u v = link.kids-stay reached m f n i u (subst (λ (y : ℕ). In y i) (k-at reached m) v)
+
+  words-change : (m r : ℕ) → ChildSwap s es m r → Moved (headerAt s es m .k) (S m) (S (suc m))
+  words-change m r w = subst (λ (y : ℕ). Moved y (S m) (S (suc m))) (sym (k-at reached m)) (link.swap-changes reached m r w)
+
+  set-stays : (m : ℕ) → ((r : ℕ) → ¬ ChildSwap s es m r) → (x : ℕ) → InSet s es m x ↔ InSet s es (suc m) x
+  unfolding SameSet
+  set-stays m f x = kept m x (link.set-stays reached m f x)
+
+  -- the record of a child swap is in use
+  swap-used : (m r : ℕ) → ChildSwap s es m r → In (S m .records) r
+  unfolding step-swaps swaps
+  swap-used m r w = go (link.swap-at reached m r w .0 .step) (link.swap-at reached m r w .0 .is) (link.swap-at reached m r w .1)
+    where
+      go : (c : Step k (S m) (S (suc m))) → step-swaps k c ≡ r → 1 ≤ r → In (S m .records) r
+      go (changes (draw-replace q p d)) e l = absurd (omega arith)
+      go (changes (draw-prune q gp d)) e l = absurd (omega arith)
+      go (changes (swap-replace q i h kd a c v same)) e l = subst (λ (y : ℕ). In (S m .records) y) e h
+      go (changes (unflag-replace q h kd c d v same)) e l = absurd (omega arith)
+      go (changes (mark q h kd c v same)) e l = absurd (omega arith)
+      go (changes (swap-prune q i other h kd mk j sj ej full d a c v same)) e l = subst (λ (y : ℕ). In (S m .records) y) e h
+      go (changes (unflag-prune q h kd c d v same)) e l = absurd (omega arith)
+      go (rests c) e l = absurd (omega arith)
+
+  -- the operation behind a record in use
+  behind : (m r : ℕ) (u : In (S m .records) r) → OperationOf s es r (story reached (comes reached m r u .when) (comes reached m r u .n) (comes reached m r u .place) (comes reached m r u .busy) .begin)
+  behind m r u = record { when = comes reached m r u .when; process = comes reached m r u .n; draws = draws-it reached m r u; busy = its-operation reached m r u }
+
+  set-changes : (m r : ℕ) → ChildSwap s es m r → (i : ℕ) × OperationOf s es r i × Changes s es m i
+  set-changes m r w = (y .begin, behind m r u, go (link.set-changes reached m r w))
+    where
+      u : In (S m .records) r
+      u = swap-used m r w
+
+      c : Comes s es m r
+      c = comes reached m r u
+
+      y : Story s es (c .when) (c .n)
+      y = story reached (c .when) (c .n) (c .place) (c .busy)
+
+      by : (o x : ℕ) → S m .rec r .operation ≡ o → S m .rec r .key ≡ x → Started s es (y .begin) (c .n) o x
+      by o x a d =
+          let p = since-start s es (c .when) (c .n) (y .begin) (y .since) .0 in
+          let e = start-same (c .n) (c .n) (p .operation) (taken (W (c .when)) (c .n) .operation) (p .key) (taken (W (c .when)) (c .n) .key) (sym (p .started .event) ∙ y .event) in
+          subst (λ (v : ℕ). Started s es (y .begin) (c .n) v x) (e .1 ∙ sym (c .operation) ∙ a)
+          (subst (λ (v : ℕ). Started s es (y .begin) (c .n) (p .operation) v) (e .2 ∙ sym (c .key) ∙ d) (p .started))
+
+      go : SetMoves k (S m .view) (S (suc m) .view) (S m .rec r) → Changes s es m (y .begin)
+      go (adds o d) = put-in (c .n) (S m .rec r .key) (by 2 (S m .rec r .key) o refl) (record {
+        absent = λ a. d .absent (of-set m (S m .rec r .key) a);
+        present = in-set (suc m) (S m .rec r .key) (d .present);
+        others = λ z q. kept m z (d .others z q);
+      })
+      go (removes o d) = taken-out (c .n) (S m .rec r .key) (by 3 (S m .rec r .key) o refl) (record {
+        present = in-set m (S m .rec r .key) (d .present);
+        absent = λ a. d .absent (of-set (suc m) (S m .rec r .key) a);
+        others = λ z q. kept m z (d .others z q);
+      })
+
+  -- what a record of an operation is, once it is drawn, to its process
+  own-of : (r i : ℕ) (a : OperationOf s es r i) (m : ℕ) → a .when < m → sinceAt s es (a .process) m ≡ suc i → DrawnSince s es (sinceAt s es (a .process) m) m (a .process) r
+  own-of r i a m l e = drawn-late reached (a .when) m (a .process) r i (a .draws) (since-start s es (a .when) (a .process) i (a .busy .last) .1) l e
+
+  -- the process of an operation is the one of its start
+  whose : (r i n o x : ℕ) (a : OperationOf s es r i) → Started s es i n o x → a .process ≡ n
+  whose r i n o x a b =
+      let p = since-start s es (a .when) (a .process) i (a .busy .last) .0 in
+      start-same (a .process) n (p .operation) o (p .key) x (sym (p .started .event) ∙ b .event) .0
+
+  once-by : (m m′ r r′ i : ℕ) (a : OperationOf s es r i) (b : OperationOf s es r′ i) → a .when ≤ b .when → ChildSwap s es m r → ChildSwap s es m′ r′ → (m ≡ m′)
+  once-by m m′ r r′ i a b l w w′ =
+      told-of.one-each reached (suc (b .when)) n place (now .busy) r r′ m m′ (subst (λ (y : ℕ). DrawnSince s es (sinceAt s es y (suc (b .when))) (suc (b .when)) y r) same
+      (own-of r i a (suc (b .when)) (omega arith) (subst (λ (y : ℕ). sinceAt s es y (suc (b .when)) ≡ suc i) (sym same) (now .last)))) (own-of r′ i b (suc (b .when)) (omega arith) (now .last)) w w′ .1
+    where
+      n : ℕ
+      n = b .process
+
+      same : a .process ≡ n
+      same = let p = since-start s es (b .when) n i (b .busy .last) .0 in whose r i n (p .operation) (p .key) a (p .started)
+
+      now : BusyWith s es (suc (b .when)) n i
+      now = still-busy reached (b .when) n r′ i (b .draws) (b .busy)
+
+      place : In (headerAt s es (suc (b .when)) .processes) n
+      place = started-place reached (suc (b .when)) n i (now .last)
+
+  once : (m m′ i : ℕ) → SwapOf s es m i → SwapOf s es m′ i → m ≡ m′
+  once m m′ i a b = go (decLe (a .operation .when) (b .operation .when))
+    where
+      go : Dec (a .operation .when ≤ b .operation .when) → m ≡ m′
+      go (yes l) = once-by m m′ (a .r) (b .r) i (a .operation) (b .operation) l (a .swap) (b .swap)
+      go (no l) = sym (once-by m′ m (b .r) (a .r) i (b .operation) (a .operation) (omega arith) (b .swap) (a .swap))
+
+  answers : (m n : ℕ) (a : Answer) (count : ℕ) → Answered s es m n a count → (i : ℕ) × BusyWith s es m n i × (operation : ℕ) × (key : ℕ) × Started s es i n operation key × (i < m)
+  answers m n a count x =
+      let y = told-of.its-story reached x in
+      let p = since-start s es m n (y .begin) (y .since) in
+      (y .begin, record { last = y .since; busy = told reached x .busy }, p .0 .operation, p .0 .key, p .0 .started, p .1)
+
+  module _ (i m n operation key count : ℕ) (a : Answer) (st : Started s es i n operation key) (b : BusyWith s es m n i) (x : Answered s es m n a count) where
+    is : (taken (W m) n .operation ≡ operation) × (taken (W m) n .key ≡ key)
+    is = busy-is reached m n i operation key st b
+
+    -- the records that the process has drawn since are those of the operation
+    drawn-for : (r : ℕ) → DrawnSince s es (sinceAt s es n m) m n r → OperationOf s es r i
+    drawn-for r d = subst (λ (y : ℕ). OperationOf s es r y) same (behind m r (d .used))
+      where
+        c : Comes s es m r
+        c = comes reached m r (d .used)
+
+        y : Story s es (c .when) (c .n)
+        y = story reached (c .when) (c .n) (c .place) (c .busy)
+
+        mine : c .n ≡ n
+        mine = sym (c .process) ∙ d .process
+
+        low : sinceAt s es n m ≤ c .when
+        low = go (decLe (sinceAt s es n m) (c .when))
+          where
+            go : Dec (sinceAt s es n m ≤ c .when) → sinceAt s es n m ≤ c .when
+            go (yes l) = l
+            go (no l) = absurd (omega (arith, d .late, c .counted, link.grows reached (suc (c .when)) (sinceAt s es n m) (omega arith) .records-more))
+
+        same : y .begin ≡ i
+        same =
+            let z : sinceAt s es n (c .when) ≡ sinceAt s es n m = since-between s es m n (c .when) low (omega (arith, c .before)) in
+            let v : sinceAt s es (c .n) (c .when) ≡ sinceAt s es n (c .when) = ap (λ (t : ℕ). sinceAt s es t (c .when)) mine in
+            omega (arith, y .since, b .last)
+
+    yes-swap : operation ≢ 1 → a ≡ Yes → (t : ℕ) × SwapOf s es t i × (i < t) × (t < m)
+    yes-swap o e =
+        let z = told-of.yes-behind reached x (λ v. o (sym (is .0) ∙ v)) e in
+        (z .when, record { r = z .r; swap = z .swap; operation = drawn-for (z .r) (z .drawn) }, omega (arith, z .from, b .last), z .before)
+
+    never-swap : operation ≢ 1 → a ≢ Yes → (t : ℕ) → ¬ SwapOf s es t i
+    never-swap o e t w = go (decLt (w .operation .when) m)
+      where
+        mine : w .operation .process ≡ n
+        mine = whose (w .r) i n operation key (w .operation) st
+
+        later : BusyWith s es (suc (w .operation .when)) n i
+        later =
+            subst (λ (y : ℕ). BusyWith s es (suc (w .operation .when)) y i) mine
+            (still-busy reached (w .operation .when) (w .operation .process) (w .r) i (w .operation .draws) (w .operation .busy))
+
+        go : Dec (w .operation .when < m) → ⊥
+        go (yes l) =
+            told-of.else-never reached x (λ v. o (sym (is .0) ∙ v)) e (w .r)
+            (subst (λ (y : ℕ). DrawnSince s es (sinceAt s es y m) m y (w .r)) mine
+            (own-of (w .r) i (w .operation) m l (subst (λ (y : ℕ). sinceAt s es y m ≡ suc i) (sym mine) (b .last)))) t (w .swap)
+        go (no l) =
+            let d : suc (w .operation .when) ≡ suc m + (w .operation .when - m) = omega arith in
+            let z = subst (λ (y : ℕ). BusyWith s es y n i) d later in
+            z .busy (ended reached m n i a count x (b .last) (w .operation .when - m) (z .last))
+
+    -- the moments of link, by the k of each and for the key of the start
+    at-moment : (P : ℕ → ℕ → Type 0) → Moment (sinceAt s es n m) m (λ t. P t (taken (W m) n .key)) → ((t : ℕ) → P t key → InSet s es t key) → Moment (suc i) m (λ t. InSet s es t key)
+    at-moment P z f = record { when = z .when; from = omega (arith, z .from, b .last); to = z .to; holds = f (z .when) (subst (λ (y : ℕ). P (z .when) y) (is .1) (z .holds)) }
+
+    not-moment : (P : ℕ → ℕ → Type 0) → Moment (sinceAt s es n m) m (λ t. P t (taken (W m) n .key)) → ((t : ℕ) → P t key → ¬ InSet s es t key) → Moment (suc i) m (λ t. ¬ InSet s es t key)
+    not-moment P z f = record { when = z .when; from = omega (arith, z .from, b .last); to = z .to; holds = f (z .when) (subst (λ (y : ℕ). P (z .when) y) (is .1) (z .holds)) }
+
+    has : Moment (sinceAt s es n m) m (λ t. Holds k (S t .view) (taken (W m) n .key)) → Moment (suc i) m (λ t. InSet s es t key)
+    has z = at-moment (λ t y. Holds k (S t .view) y) z (λ t h. in-set t key h)
+
+    lacks : Moment (sinceAt s es n m) m (λ t. ¬ Holds k (S t .view) (taken (W m) n .key)) → Moment (suc i) m (λ t. ¬ InSet s es t key)
+    lacks z = not-moment (λ t y. ¬ Holds k (S t .view) y) z (λ t h v. h (of-set t key v))
+
+    find-not-full : operation ≡ 1 → a ≢ Full
+    find-not-full o e = go (told reached x .why)
+      where
+        go : Why k S (sinceAt s es n m) m n (taken (W m) n) a → ⊥
+        go (found p z w) = let v : Yes ≡ Full = sym z ∙ e in let y : _≡_ {A = ℕ} 0 1 = cc in omega arith
+        go (missing p z w) = let v : No ≡ Full = sym z ∙ e in let y : _≡_ {A = ℕ} 0 1 = cc in omega arith
+        go (there p z u w) = omega (arith, is .0)
+        go (not-there p z u w) = omega (arith, is .0)
+        go (no-room p z u) = p (is .0 ∙ o)
+        go (did p z u c d f g) = p (is .0 ∙ o)
+
+  draws : (m : ℕ) → Drawing (headerAt s es m .k) (S m) (S (suc m))
+  draws m = subst (λ (y : ℕ). Drawing y (S m) (S (suc m))) (sym (k-at reached m)) (go (step-at reached m))
+    where
+      go : Step k (S m) (S (suc m)) → Drawing k (S m) (S (suc m))
+      go (changes (draw-replace r p d)) = by (d .drawn)
+        where
+          counted : S (suc m) .records ≡ S m .records + 1
+          counted = d .record-new .counted ∙ d .record-new .next
+
+          words : S (suc m) .rec (S m .records + 1) ≡ S (suc m) .rec r
+          words = ap (S (suc m) .rec) (sym (d .record-new .next))
+
+          kind : S (suc m) .rec (S m .records + 1) .kind ≡ 1
+          kind = ap (λ (v : Desc). v .kind) (words ∙ d .record-new .words)
+
+          third : S (suc m) .rec (S m .records + 1) .third ≡ S m .nodes + 1
+          third = ap (λ (v : Desc). v .third) (words ∙ d .record-new .words)
+
+          by : Drawn k (S m .view) (S (suc m) .view) (S m .nodes + 1) r (d .operation) (d .x) (d .l) (d .size) → Drawing k (S m) (S (suc m))
+          by (put-leaf o h t n z) = a-leaf counted (omega (arith, d .counted)) kind third
+          by (out-leaf o h n z) = a-leaf counted (omega (arith, d .counted)) kind third
+          by (sprout o h t n z) = a-sprout counted (omega (arith, d .counted)) kind third (n .kids)
+      go (changes (draw-prune r gp d)) =
+          a-prune (d .record-new .counted ∙ d .record-new .next) (d .counted)
+          (ap (λ (v : Desc). v .kind) (ap (S (suc m) .rec) (sym (d .record-new .next)) ∙ d .record-new .words))
+      go (changes (swap-replace q i h kd a e w same)) = nothing (same .records-same) (same .nodes-same)
+      go (changes (unflag-replace q h kd e x w same)) = nothing (same .records-same) (same .nodes-same)
+      go (changes (mark q h kd e w same)) = nothing (same .records-same) (same .nodes-same)
+      go (changes (swap-prune q i other h kd mk j sj ej full x a e w same)) = nothing (same .records-same) (same .nodes-same)
+      go (changes (unflag-prune q h kd e x w same)) = nothing (same .records-same) (same .nodes-same)
+      go (rests e) = nothing (e .tables .records-same) (e .tables .nodes-same)
+
+  listing : (m : ℕ) → Listing s es m
+  listing m = record {
+    keys = keysMet (blockAt s es m);
+    set = survey.keys-list reached m;
+    call = survey.list-answers reached m;
+    twin = survey.part-answers reached m;
+    short = survey.list-too-short reached m;
+  }
+
+  range : (m low high : ℕ) → low ≤ high → high < infinity → Range s es m low high
+  range m low high l h = go (survey.range-answers reached m low high p q l)
+    where
+      p : low ≢ infinity
+      p e = omega arith
+
+      q : high ≢ infinity
+      q e = omega arith
+
+      go : (rangeOf (blockAt s es m) low high ≡ cleared.Yes) ⊎ (rangeOf (blockAt s es m) low high ≡ cleared.No) → Range s es m low high
+      go (inl e) = clear e (survey.range-yes reached m low high p q l .0 e)
+      go (inr e) = met e (survey.range-no reached m low high p q l .0 e)
+
+  words-beyond : (m i : ℕ) → blockWords (headerAt s es m) ≤ i → getD (blockAt s es (suc m)) i 0 ≡ getD (blockAt s es m) i 0
+  words-beyond m i l = by (eventAt es m) refl
+    where
+      by : (e : Event) → eventAt es m ≡ e → getD (blockAt s es (suc m)) i 0 ≡ getD (blockAt s es m) i 0
+      by (start n o x) z = ap (λ (t : State). getD (t .block) i 0) (state-next s es m (start n o x) z)
+      by (step n) z = ap (λ (t : State). getD (t .block) i 0) (state-next s es m (step n) z) ∙ step-behind (blockAt s es m) (W m .row) n i l
+
+  records-beyond : (m n : ℕ) → headerAt s es m .processes < n → taken (W (suc m)) n ≡ taken (W m) n
+  records-beyond m n l = go (outcome (link.good reached m))
+    where
+      apart : (p : ℕ) → In (headerAt s es m .processes) p → n ≢ p
+      apart p u e = omega (arith, u .high)
+
+      go : Outcome s es m → taken (W (suc m)) n ≡ taken (W m) n
+      go (still e f g) = ap (λ (t : State). taken t n) e
+      go (begun p o x u z v w f f′ g) = taken-other (link.good reached m) p (blockAt s es m) (startedAs o x) w u n (omega arith) (apart p u)
+      go (moved p u z y w f g g′) =
+          taken-other (link.good reached m) p (rowOf (blockAt s es m) (headerAt s es m) p (taken (W m) p) .block)
+          (rowOf (blockAt s es m) (headerAt s es m) p (taken (W m) p) .stepped .process) (state-is (link.good reached m) p u z y w) u n (omega arith) (apart p u)
+
+  pub claimed : Claim s es
+  claimed = record {
+    start-refused = link.start-refused reached;
+    step-refused = step-refused;
+    search-order = search-order;
+    listing = listing;
+    range = range;
+    words-stay = words-stay;
+    words-change = words-change;
+    set-stays = set-stays;
+    set-changes = set-changes;
+    once = once;
+    one-operation = one-operation reached;
+    answers = answers;
+    yes = λ i m n operation key count st b x o. yes-swap i m n operation key count Yes st b x o refl;
+    no-or-full = λ i m n operation key count a st b x o e. never-swap i m n operation key count a st b x o e;
+    find-yes = λ i m n key count st b x. has i m n 1 key count Yes st b x (told-of.find-yes reached x (is i m n 1 key count Yes st b x .0) refl);
+    find-no = λ i m n key count st b x. lacks i m n 1 key count No st b x (told-of.find-no reached x (is i m n 1 key count No st b x .0) refl);
+    insert-no = λ i m n key count st b x. has i m n 2 key count No st b x (told-of.insert-no reached x (is i m n 2 key count No st b x .0) refl);
+    delete-no = λ i m n key count st b x. lacks i m n 3 key count No st b x (told-of.delete-no reached x (is i m n 3 key count No st b x .0) refl);
+    find-full = λ i m n key count st b x. find-not-full i m n 1 key count Full st b x refl refl;
+    counts = λ m n a count x. told-of.steps-all reached x;
+    lasting = link.grows reached;
+    draws = draws;
+    words-beyond = words-beyond;
+    records-beyond = records-beyond;
+  }

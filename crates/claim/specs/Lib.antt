@@ -1,0 +1,3 @@
+-- What demand 3 claims, and what its driver may conclude: statements only.
+pub mod Claim
+pub mod Flushed

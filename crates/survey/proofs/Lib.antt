@@ -1,0 +1,5 @@
+-- Listing and range at every moment: the walk over a block is the walk of the history, so its keys are the set.
+pub mod Rows
+pub mod Walks
+pub mod Calls
+pub mod Clauses
