@@ -3,6 +3,7 @@ use Rattle.outcomes.specs.Outcome.{OneOutcome}
 use Rattle.outcomes.proofs.Law.{one, codes}
 use Rattle.tables.specs.Fresh.{MakeOut}
 use Rattle.tables.proofs.choice.and
+use Rattle.tables.proofs.choice.or
 use Rattle.tables.proofs.choice.at_most
 use Rattle.tables.proofs.choice.below
 use Rattle.tables.proofs.choice.same
@@ -56,6 +57,9 @@ use Rattle.tables.proofs.words.prev
 
 pub and-one : OneOutcome and.ended (λ M. and.clauses {M = M})
 and-one w κs a o o′ = one and.ended κs a (search codes depth 9) (λ x. (x, o .1))
+
+pub or-one : OneOutcome or.ended (λ M. or.clauses {M = M})
+or-one w κs a o o′ = one or.ended κs a (search codes depth 9) (λ x. (x, o .1))
 
 pub at-most-one : OneOutcome at_most.ended (λ M. at_most.clauses {M = M})
 at-most-one w κs a o o′ = one at_most.ended κs a (search codes depth 9) (λ x. (x, o .1))
