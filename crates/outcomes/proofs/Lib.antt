@@ -1,0 +1,11 @@
+-- One outcome, for every public function of each library.
+pub mod Law
+pub mod Tables
+pub mod Process
+pub mod Damage
+pub mod Draws
+pub mod Points
+pub mod Walk
+pub mod Script
+pub mod Index
+pub mod Session

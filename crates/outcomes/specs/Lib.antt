@@ -1,0 +1,2 @@
+-- What it means that a promise leaves one outcome.
+pub mod Outcome
