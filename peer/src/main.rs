@@ -13,6 +13,7 @@ mod rules;
 mod runs;
 mod script;
 mod step;
+mod story;
 mod watch;
 
 use fault::{Fault, FAULTS};

@@ -42,6 +42,11 @@ pub enum HarmKind {
 }
 
 impl HarmKind {
+    /// What the driver asks never to see: a number lost, a job done twice, a task refused 3 for ever.
+    pub fn is_grave(self) -> bool {
+        matches!(self, HarmKind::NumberLost | HarmKind::DoneTwice | HarmKind::RefusedThree)
+    }
+
     pub fn name(self) -> &'static str {
         match self {
             HarmKind::RefusedThree => "a task is refused 3",
@@ -184,6 +189,15 @@ impl Watch {
 
     pub fn is_busy(&self, process: u32) -> bool {
         self.row[process as usize - 1].operation != 0
+    }
+
+    pub fn words(&self) -> &[u32] {
+        &self.block
+    }
+
+    /// The answer to the process's last operation, if it has one.
+    pub fn last_answer(&self, process: u32) -> Option<Answer> {
+        self.tasks.get(self.current[process as usize - 1])?.answer
     }
 
     fn structure(&self, is_so: bool, what: &str) -> Seen {
@@ -497,6 +511,9 @@ impl Watch {
             return harm(HarmKind::WrongAnswer, format!("{} with {steps} steps", what()));
         }
         let wanted_swaps = u32::from(answer == Answer::Yes && operation != FIND);
+        if swaps < wanted_swaps && operation == INSERT && !self.set.contains(&key) {
+            return harm(HarmKind::NumberLost, format!("{}, and no swap put it in", what()));
+        }
         if swaps != wanted_swaps {
             return harm(HarmKind::WrongAnswer, format!("{} after {swaps} swaps of it", what()));
         }
