@@ -4,7 +4,7 @@
 #   ./faults.sh                    every fault of faults/definitions, and what the peer makes of it   (docs/FAULTS.md)
 #   ./faults.sh useless            every build of faults/useless                                      (docs/OUTCOMES.md)
 #   ./faults.sh [useless] NAME ..  some of them
-# It is no part of the gate. What is proved already in target/ is not proved again.
+# It is no part of the gate. It fails if a fault is not refused, or the peer finds no harm in it. What is proved in target/ is not proved again.
 set -euo pipefail
 cd "$(dirname "$0")"
 for tool in rt git rustc; do command -v $tool > /dev/null || { echo "faults: $tool is missing" >&2; exit 1; }; done
@@ -12,7 +12,7 @@ home=$PWD
 kind=definitions mark='##'
 if [ "${1:-}" = useless ]; then kind=useless mark='###'; shift; fi
 mapfile -t names < <(if [ $# -gt 0 ]; then printf '%s\n' "$@"; else basename -s .patch faults/$kind/*.patch; fi)
-room=$(mktemp -d)
+room=$(cd "$(mktemp -d)" && pwd -P)
 trap 'rm -rf "$room"' EXIT
 
 # The crates with what each stands on. Demand 3 is proved in link and stated in the crates above it.
@@ -86,11 +86,12 @@ lines_apart() { # FOLDER
     done >> "$holds"
 }
 
-# Proves what demand 3 and the runs stand on; says which crates are refused, and where.
+# Proves what demand 3 and the runs stand on; says which crates are refused, and where. Counts them.
 prove() { # FOLDER
+    refusals=0
     (cd "$1" && RT_CUT=0 rt check "${tops[@]}") > "$1/said" 2>&1 || true
     for crate in "${order[@]}"; do
-        if grep -q "^rt: $crate NOT PROVED (" "$1/said"; then refused "$1" "$crate"; fi
+        if grep -q "^rt: $crate NOT PROVED (" "$1/said"; then refused "$1" "$crate"; refusals=$((refusals + 1)); fi
         if grep -q "^rt: $crate NOT PROVED: its dep" "$1/said"; then sed -n "s/^rt: $crate NOT PROVED: \(.*\)/- \`$crate\` is not tried: \1./p" "$1/said"; fi
         if is_reached "$crate" && grep -q "^rt: $crate proved (" "$1/said"; then echo "- \`$crate\` is proved."; fi
     done
@@ -138,6 +139,7 @@ The same events without the fault do no harm. So none of the five faults is harm
 END
 }
 
+unseen=0
 base=$room/base
 copy "$home" "$base"
 lines_apart "$base"
@@ -149,6 +151,7 @@ if [ $kind = definitions ]; then
     echo
     prove "$base"
     echo
+    if [ $refusals != 0 ]; then echo "faults: refused without a fault" >&2; exit 1; fi
 fi
 
 for name in "${names[@]}"; do
@@ -168,11 +171,13 @@ for name in "${names[@]}"; do
     echo
     prove "$room/$name"
     echo
+    if [ $refusals = 0 ]; then echo "faults: $name is not refused" >&2; unseen=1; fi
     if [ $kind = definitions ]; then
         echo '```'
-        "$room/peer" fault "$name" 1 5000 || true
+        "$room/peer" fault "$name" 1 5000 || { echo "faults: the peer finds no harm in $name" >&2; unseen=1; }
         echo '```'
         echo
     fi
     rm -rf "${room:?}/$name"
 done
+exit $unseen
