@@ -32,8 +32,10 @@ impl Event {
 pub enum HarmKind {
     /// Refused 3, though it comes from a fresh tree.
     RefusedThree,
-    /// The set changed otherwise than by the one key of the operation helped.
+    /// A number is gone from the set that nobody deleted, or never came into it though its insert is answered yes.
     NumberLost,
+    /// The set changed otherwise than by the one key of the operation helped, and none is lost.
+    NumberGained,
     DoneTwice,
     WrongAnswer,
     NeverAnswers,
@@ -50,7 +52,8 @@ impl HarmKind {
     pub fn name(self) -> &'static str {
         match self {
             HarmKind::RefusedThree => "a task is refused 3",
-            HarmKind::NumberLost => "a number is lost or gained",
+            HarmKind::NumberLost => "a number is lost",
+            HarmKind::NumberGained => "a number is gained, or stays though it is deleted",
             HarmKind::DoneTwice => "a job is done twice",
             HarmKind::WrongAnswer => "an answer is wrong",
             HarmKind::NeverAnswers => "a task never answers",
@@ -69,6 +72,15 @@ pub type Seen = Result<(), Harm>;
 
 fn harm(kind: HarmKind, what: String) -> Seen {
     Err(Harm { kind, what })
+}
+
+/// Which of the two a wrong change of the set is; the key that was to be deleted is not lost.
+fn lost_or_gained(changes: &[u32], now: &BTreeSet<u32>, deleted: Option<u32>) -> HarmKind {
+    if changes.iter().any(|key| !now.contains(key) && deleted != Some(*key)) {
+        HarmKind::NumberLost
+    } else {
+        HarmKind::NumberGained
+    }
 }
 
 /// What is counted over histories.
@@ -403,7 +415,7 @@ impl Watch {
         if !swapped {
             if !changes.is_empty() {
                 let what = format!("keys {changes:?} changed without a child swap");
-                return harm(HarmKind::NumberLost, what);
+                return harm(lost_or_gained(&changes, &now, None), what);
             }
             return Ok(());
         }
@@ -423,7 +435,8 @@ impl Watch {
         }
         if changes != [key] || now.contains(&key) != (operation == INSERT) {
             let what = format!("operation {operation} of key {key} changed the keys {changes:?}");
-            return harm(HarmKind::NumberLost, what);
+            let deleted = (operation == DELETE).then_some(key);
+            return harm(lost_or_gained(&changes, &now, deleted), what);
         }
         self.set = now;
         Ok(())
