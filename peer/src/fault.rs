@@ -1,7 +1,7 @@
 //! Deliberate faults, for showing that the history check sees them. Each one overrides a single
 //! decision of the step; the sound step is built from the defaults, so it pays nothing for them.
 
-use crate::engine::{Pending, Tables, ROOT};
+use crate::engine::{Pending, Tables};
 use crate::step::{step_with, StepCall};
 
 /// The decisions of a step in which a fault can be put.
@@ -70,11 +70,15 @@ impl Slip for ReuseNumber {
     }
 }
 
-/// A drawn leaf above p that is out of the tree, though a slow process may still hold it.
+/// A drawn leaf above p that no node has for a child, though a slow process may still hold it.
 fn leaf_out_of_the_tree(tables: &Tables, p: u32) -> Option<u32> {
     let header = tables.header;
     let mut wanted = vec![false; header.nodes_used as usize + 1];
-    reach(tables, ROOT, &mut wanted);
+    for node in (1..=header.nodes_used).filter(|&node| tables.tag(node) == header.k) {
+        for i in 1..=header.k {
+            wanted[tables.child_word(node, i) as usize] = true;
+        }
+    }
     // A new child whose swap is still to come isn't out of the tree but on its way into it.
     for number in 1..=header.records_used {
         let record = tables.record(number);
@@ -86,15 +90,6 @@ fn leaf_out_of_the_tree(tables: &Tables, p: u32) -> Option<u32> {
     let fresh_nodes = 2 * header.k + 1;
     (p.max(fresh_nodes) + 1..=header.nodes_used)
         .find(|&node| !wanted[node as usize] && tables.tag(node) < header.k)
-}
-
-fn reach(tables: &Tables, node: u32, wanted: &mut [bool]) {
-    if std::mem::replace(&mut wanted[node as usize], true) || tables.tag(node) < tables.header.k {
-        return;
-    }
-    for i in 1..=tables.header.k {
-        reach(tables, tables.child_word(node, i), wanted);
-    }
 }
 
 #[derive(Clone, Copy, PartialEq, Eq, Debug)]
@@ -138,7 +133,7 @@ impl Fault {
             Fault::SkipTen => "9 goes to 11 after a failed mark",
             Fault::KeepFlag => "10 pops, but leaves the flag on gp",
             Fault::CleanZero => "8 swaps to clean with record 0",
-            Fault::ReuseNumber => "a simple insert or delete draws a leaf number that is out of the tree",
+            Fault::ReuseNumber => "a draw of one leaf takes that of a leaf that no node has for a child",
             Fault::SkipGp => "2 skips the help of gp",
         }
     }

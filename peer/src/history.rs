@@ -4,6 +4,7 @@ use crate::engine::{Answer, DELETE, FIND, INFINITY, INSERT};
 use crate::fault::Fault;
 use crate::random::Random;
 use crate::step::{step, StepCall};
+use crate::story::Story;
 use crate::watch::{Event, Harm, HarmKind, Seen, Shape, Tally, Watch};
 use std::fmt::Write;
 use std::process::ExitCode;
@@ -327,15 +328,20 @@ pub fn show(fault: Fault, first: u64, count: u64) -> ExitCode {
     let terms = Terms { call: fault.step(), strict: false, bench_sized: true };
     println!("fault {}: {}", fault.name(), fault.meaning());
     let mut total = Tally::default();
-    let mut harmed = Vec::new();
+    let (mut harmed, mut lesser) = (Vec::new(), Vec::new());
     for seed in first..first + count {
         match random_history(seed, terms) {
             Ok(tally) => total.add(&tally),
-            Err(failure) => harmed.push((seed, failure)),
+            Err(failure) if failure.harm.kind.is_grave() => harmed.push((seed, failure)),
+            Err(failure) => lesser.push((seed, failure)),
         }
         if harmed.len() == HARMED_HISTORIES {
             break;
         }
+    }
+    if harmed.is_empty() {
+        lesser.truncate(HARMED_HISTORIES);
+        harmed = lesser;
     }
     if harmed.is_empty() {
         println!("no harm in {count} histories from seed {first}: {}", summary(&total));
@@ -356,9 +362,14 @@ fn report(harmed: Vec<(u64, Failure)>, terms: Terms) {
     );
     let shortened = harmed.into_iter().map(|(seed, failure)| (seed, minimised(failure, terms)));
     let Some((seed, smaller)) = shortened.min_by_key(|(_, failure)| failure.events.len()) else { return };
-    let Failure { shape, events, harm, .. } = &smaller;
+    let Failure { shape, events, harm, in_drain } = &smaller;
     println!("shortest, from seed {seed}, {} events: {}: {}", events.len(), harm.kind.name(), harm.what);
     print!("{}", as_script(&smaller));
+    println!("told:");
+    let story = Story::new(Watch::new(*shape, terms.call, terms.strict));
+    for line in story.tell(events, *in_drain, harm) {
+        println!("  {line}");
+    }
     let without = Terms { call: step, strict: true, ..terms };
     match replay(*shape, events, without) {
         None => println!("the same events without the fault: no harm"),

@@ -14,6 +14,7 @@ mod rules;
 mod runs;
 mod script;
 mod step;
+mod story;
 mod watch;
 
 use fault::{Fault, FAULTS};

@@ -32,8 +32,10 @@ impl Event {
 pub enum HarmKind {
     /// Refused 3, though it comes from a fresh tree.
     RefusedThree,
-    /// The set changed otherwise than by the one key of the operation helped.
+    /// A number is gone from the set that nobody deleted, or never came into it though its insert is answered yes.
     NumberLost,
+    /// The set changed otherwise than by the one key of the operation helped, and none is lost.
+    NumberGained,
     DoneTwice,
     WrongAnswer,
     NeverAnswers,
@@ -42,10 +44,16 @@ pub enum HarmKind {
 }
 
 impl HarmKind {
+    /// What the driver asks never to see: a number lost, a job done twice, a task refused 3 for ever.
+    pub fn is_grave(self) -> bool {
+        matches!(self, HarmKind::NumberLost | HarmKind::DoneTwice | HarmKind::RefusedThree)
+    }
+
     pub fn name(self) -> &'static str {
         match self {
             HarmKind::RefusedThree => "a task is refused 3",
-            HarmKind::NumberLost => "a number is lost or gained",
+            HarmKind::NumberLost => "a number is lost",
+            HarmKind::NumberGained => "a number is gained, or stays though it is deleted",
             HarmKind::DoneTwice => "a job is done twice",
             HarmKind::WrongAnswer => "an answer is wrong",
             HarmKind::NeverAnswers => "a task never answers",
@@ -64,6 +72,15 @@ pub type Seen = Result<(), Harm>;
 
 fn harm(kind: HarmKind, what: String) -> Seen {
     Err(Harm { kind, what })
+}
+
+/// Which of the two a wrong change of the set is; the key that was to be deleted is not lost.
+fn lost_or_gained(changes: &[u32], now: &BTreeSet<u32>, deleted: Option<u32>) -> HarmKind {
+    if changes.iter().any(|key| !now.contains(key) && deleted != Some(*key)) {
+        HarmKind::NumberLost
+    } else {
+        HarmKind::NumberGained
+    }
 }
 
 /// What is counted over histories.
@@ -184,6 +201,15 @@ impl Watch {
 
     pub fn is_busy(&self, process: u32) -> bool {
         self.row[process as usize - 1].operation != 0
+    }
+
+    pub fn words(&self) -> &[u32] {
+        &self.block
+    }
+
+    /// The answer to the process's last operation, if it has one.
+    pub fn last_answer(&self, process: u32) -> Option<Answer> {
+        self.tasks.get(self.current[process as usize - 1])?.answer
     }
 
     fn structure(&self, is_so: bool, what: &str) -> Seen {
@@ -389,7 +415,7 @@ impl Watch {
         if !swapped {
             if !changes.is_empty() {
                 let what = format!("keys {changes:?} changed without a child swap");
-                return harm(HarmKind::NumberLost, what);
+                return harm(lost_or_gained(&changes, &now, None), what);
             }
             return Ok(());
         }
@@ -409,7 +435,8 @@ impl Watch {
         }
         if changes != [key] || now.contains(&key) != (operation == INSERT) {
             let what = format!("operation {operation} of key {key} changed the keys {changes:?}");
-            return harm(HarmKind::NumberLost, what);
+            let deleted = (operation == DELETE).then_some(key);
+            return harm(lost_or_gained(&changes, &now, deleted), what);
         }
         self.set = now;
         Ok(())
@@ -497,6 +524,9 @@ impl Watch {
             return harm(HarmKind::WrongAnswer, format!("{} with {steps} steps", what()));
         }
         let wanted_swaps = u32::from(answer == Answer::Yes && operation != FIND);
+        if swaps < wanted_swaps && operation == INSERT && !self.set.contains(&key) {
+            return harm(HarmKind::NumberLost, format!("{}, and no swap put it in", what()));
+        }
         if swaps != wanted_swaps {
             return harm(HarmKind::WrongAnswer, format!("{} after {swaps} swaps of it", what()));
         }
