@@ -9,8 +9,8 @@ set -euo pipefail
 cd "$(dirname "$0")"
 for tool in rt git rustc; do command -v $tool > /dev/null || { echo "faults: $tool is missing" >&2; exit 1; }; done
 home=$PWD
-kind=definitions mark='##'
-if [ "${1:-}" = useless ]; then kind=useless mark='###'; shift; fi
+kind=definitions
+if [ "${1:-}" = useless ]; then kind=useless; shift; fi
 mapfile -t names < <(if [ $# -gt 0 ]; then printf '%s\n' "$@"; else basename -s .patch faults/$kind/*.patch; fi)
 room=$(cd "$(mktemp -d)" && pwd -P)
 trap 'rm -rf "$room"' EXIT
@@ -161,7 +161,7 @@ for name in "${names[@]}"; do
         mapfile -t edited < <(edit "$name" | sed -n 's|^+++ b/crates/\([a-z]*\)/specs/.*|\1|p' | sort -u)
         for crate in "${order[@]}"; do if is_between "$crate"; then without_uncited "$room/$name" "$crate"; fi; done
     fi
-    echo "$mark $name"
+    echo "## $name"
     echo
     meaning "$name"
     echo
