@@ -1,0 +1,221 @@
+// The work that is timed: a tree is made and filled, keys are sought in it, and keys go and come until there is no room.
+ghost use mathlib.Core.Path.{_≡_};
+ghost use Prim.Native.Nat.{_+_, _-_, _*_, _%_, _≤_};
+use index::held;
+use points::start;
+use points::step;
+use process::Process;
+use process::StepAnswer;
+
+// More steps than any operation of a process alone takes.
+const MOST_STEPS: u32 = 1000000;
+
+// Beside the paper's 0 no, 1 yes, 2 full.
+const REFUSED: u32 = 3;
+
+// A prime below infinity.
+const PRIME: u64 = 4294967291;
+
+// How much is to be done, in the order of the input.
+pub struct Work {
+    pub k: u32,
+    pub nodes: u32,
+    pub records: u32,
+    pub keys: u32,
+    pub finds: u32,
+    pub changes: u32,
+    pub rounds: u32,
+}
+
+struct Ending {
+    answer: u32,
+    steps: u32,
+}
+
+// How the operations ended, their steps in all, and a sum in which their order counts.
+pub struct Tally {
+    pub yes: u64,
+    pub no: u64,
+    pub full: u64,
+    pub refused: u64,
+    pub steps: u64,
+    pub sum: u32,
+}
+
+struct Filled {
+    tally: Tally,
+    count: u32,
+}
+
+// Keys that are all different, in no order, and below infinity.
+fn key_of(i: u32) -> u32
+    ensures { λ r. ⌜ r ≡ ((i + 1) * 2654435761) % 4294967291 ⌝ }
+{
+    (((i as u64) + 1) * 2654435761 % PRIME) as u32
+}
+
+// The steps still allowed: none once an answer or a refusal is there.
+fn left_after(left: u32, answer: StepAnswer) -> u32
+    ensures { λ r. ⌜ r ≤ left - 1 ⌝ }
+{
+    match answer {
+        StepAnswer::GoesOn => { if left == 0 { 0 } else { left - 1 } }
+        StepAnswer::Ended(_, _) => 0,
+        StepAnswer::Refused(_) => 0,
+    }
+}
+
+fn steps(block: &mut [u32], q: Process) -> StepAnswer {
+    let mut process = q;
+    let mut answer = StepAnswer::GoesOn;
+    let mut left = MOST_STEPS;
+    while left > 0 {
+        let s = step::step(block, 1, 1, process);
+        let a = s.answer;
+        let p = s.process;
+        answer = a;
+        process = p;
+        left = left_after(left, a);
+    }
+    answer
+}
+
+fn ending_of(answer: StepAnswer) -> Ending {
+    match answer {
+        StepAnswer::GoesOn => Ending {
+            answer: REFUSED,
+            steps: 0,
+        },
+        StepAnswer::Ended(a, n) => Ending {
+            answer: process::number_of(a),
+            steps: n,
+        },
+        StepAnswer::Refused(_) => Ending {
+            answer: REFUSED,
+            steps: 0,
+        },
+    }
+}
+
+// One operation of process 1, from its start to its answer.
+fn operate(block: &mut [u32], operation: u32, key: u32) -> Ending {
+    let idle = process::idle_record();
+    let s = start::start(block, 1, 1, idle, operation, key);
+    let q = s.process;
+    let answer = steps(block, q);
+    ending_of(answer)
+}
+
+// No more of its kind will be done.
+fn is_over(e: Ending) -> bool {
+    e.answer > 1
+}
+
+fn one_if(answer: u32, wanted: u32) -> u64 {
+    if answer == wanted { 1 } else { 0 }
+}
+
+fn mixed(sum: u32, answer: u32, steps: u32) -> u32
+    ensures { λ r. ⌜ r ≡ (sum * 31 + steps * 4 + answer) % 4294967291 ⌝ }
+{
+    (((sum as u64) * 31 + (steps as u64) * 4 + (answer as u64)) % PRIME) as u32
+}
+
+fn tallied(t: Tally, e: Ending) -> Tally {
+    let a = e.answer;
+    Tally {
+        yes: std::num::wrapping_add_u64(t.yes, one_if(a, 1)),
+        no: std::num::wrapping_add_u64(t.no, one_if(a, 0)),
+        full: std::num::wrapping_add_u64(t.full, one_if(a, 2)),
+        refused: std::num::wrapping_add_u64(t.refused, one_if(a, REFUSED)),
+        steps: std::num::wrapping_add_u64(t.steps, e.steps as u64),
+        sum: mixed(t.sum, a, e.steps),
+    }
+}
+
+pub fn nothing() -> Tally {
+    Tally {
+        yes: 0,
+        no: 0,
+        full: 0,
+        refused: 0,
+        steps: 0,
+        sum: 0,
+    }
+}
+
+// Inserts, so many or until one is full; how many were tried.
+fn fill(block: &mut [u32], keys: u32, t: Tally) -> Filled {
+    let mut tally = t;
+    let mut count: u32 = 0;
+    let mut over = false;
+    while count < keys && !over {
+        let e = operate(block, process::INSERT, key_of(count));
+        tally = tallied(tally, e);
+        over = is_over(e);
+        count += 1;
+    }
+    Filled { tally, count }
+}
+
+// Half of the keys sought were inserted.
+fn find_all(block: &mut [u32], count: u32, finds: u32, t: Tally) -> Tally {
+    let mut tally = t;
+    let mut i: u32 = 0;
+    let mut j: u32 = 0;
+    while i < finds {
+        let e = operate(block, process::FIND, key_of(j));
+        tally = tallied(tally, e);
+        j = if j / 2 < count {
+            std::num::wrapping_add_u32(j, 1)
+        } else {
+            0
+        };
+        i += 1;
+    }
+    tally
+}
+
+// The oldest key goes, or a new one comes.
+fn change(block: &mut [u32], count: u32, i: u32) -> Ending {
+    if i % 2 == 0 {
+        operate(block, process::DELETE, key_of(i / 2))
+    } else {
+        let new = std::num::wrapping_add_u32(count, i / 2);
+        operate(block, process::INSERT, key_of(new))
+    }
+}
+
+// So many changes, or until one is full.
+fn change_all(block: &mut [u32], count: u32, changes: u32, t: Tally) -> Tally {
+    let mut tally = t;
+    let mut i: u32 = 0;
+    let mut over = false;
+    while i < changes && !over {
+        let e = change(block, count, i);
+        tally = tallied(tally, e);
+        over = is_over(e);
+        i += 1;
+    }
+    tally
+}
+
+// A tree for one process, and all that is to be done on it.
+fn round(block: &mut [u32], w: Work, t: Tally) -> Tally {
+    let row = [process::idle_record(); 32];
+    held::make_held(block, row, w.k, 1, w.nodes, w.records);
+    let f = fill(block, w.keys, t);
+    let filled = f.tally;
+    let found = find_all(block, f.count, w.finds, filled);
+    change_all(block, f.count, w.changes, found)
+}
+
+pub fn rounds(block: &mut [u32], w: Work) -> Tally {
+    let mut tally = nothing();
+    let mut i: u32 = 0;
+    while i < w.rounds {
+        tally = round(block, w, tally);
+        i += 1;
+    }
+    tally
+}
