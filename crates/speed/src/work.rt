@@ -1,11 +1,12 @@
 // The work that is timed: a tree is made and filled, keys are sought in it, and keys go and come until there is no room.
 ghost use mathlib.Core.Path.{_≡_};
-ghost use Prim.Native.Nat.{_+_, _-_, _*_, _%_, _≤_};
+ghost use Prim.Native.Nat.{_+_, _*_, _%_};
+ghost use Rattle.index.specs.Calls.{startCall};
+ghost use Rattle.speed.specs.Steps.{leftAfter, stepsOut, stepsFrom};
 use index::held;
-use points::start;
-use points::step;
 use process::Process;
 use process::StepAnswer;
+use tables::words;
 
 // More steps than any operation of a process alone takes.
 const MOST_STEPS: u32 = 1000000;
@@ -54,28 +55,36 @@ fn key_of(i: u32) -> u32
     (((i as u64) + 1) * 2654435761 % PRIME) as u32
 }
 
+// A start of process 1 in a lent row of one record.
+fn begin(block: &[u32], held: [Process; 1], operation: u32, key: u32) -> [Process; 1]
+    ensures { λ r. ⌜ r ≡ startCall (now (block .entry)) held 1 operation key .row ⌝ }
+{
+    let mut row = held;
+    index::start(block, &mut row, 1, operation, key);
+    row
+}
+
 // The steps still allowed: none once an answer or a refusal is there.
 fn left_after(left: u32, answer: StepAnswer) -> u32
-    ensures { λ r. ⌜ r ≤ left - 1 ⌝ }
+    ensures { λ r. ⌜ r ≡ leftAfter left answer ⌝ }
 {
     match answer {
-        StepAnswer::GoesOn => { if left == 0 { 0 } else { left - 1 } }
+        StepAnswer::GoesOn => words::prev(left),
         StepAnswer::Ended(_, _) => 0,
         StepAnswer::Refused(_) => 0,
     }
 }
 
-fn steps(block: &mut [u32], q: Process) -> StepAnswer {
-    let mut process = q;
-    let mut answer = StepAnswer::GoesOn;
-    let mut left = MOST_STEPS;
+// Steps of process 1 in a lent row of one record, until an answer or a refusal; at most so many, and with none, what was said before.
+fn steps(block: &mut [u32], held: [Process; 1], before: StepAnswer, most: u32) -> StepAnswer
+    ensures { λ r. ⌜ stepsOut r (now (block .exit)) ≡ stepsFrom most before (now (block .entry)) held ⌝ }
+{
+    let mut row = held;
+    let mut answer = before;
+    let mut left = most;
     while left > 0 {
-        let s = step::step(block, 1, 1, process);
-        let a = s.answer;
-        let p = s.process;
-        answer = a;
-        process = p;
-        left = left_after(left, a);
+        answer = index::step(block, &mut row, 1);
+        left = left_after(left, answer);
     }
     answer
 }
@@ -99,10 +108,9 @@ fn ending_of(answer: StepAnswer) -> Ending {
 
 // One operation of process 1, from its start to its answer.
 fn operate(block: &mut [u32], operation: u32, key: u32) -> Ending {
-    let idle = process::idle_record();
-    let s = start::start(block, 1, 1, idle, operation, key);
-    let q = s.process;
-    let answer = steps(block, q);
+    let idle = [process::idle_record(); 1];
+    let started = begin(block, idle, operation, key);
+    let answer = steps(block, started, StepAnswer::GoesOn, MOST_STEPS);
     ending_of(answer)
 }
 

@@ -1,0 +1,2 @@
+-- What the timed program says of its own loop over the step call.
+pub mod Steps
