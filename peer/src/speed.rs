@@ -69,9 +69,18 @@ fn numbers(text: &[u8]) -> [u32; 7] {
     let mut found = [0; 7];
     let words = text.split(|byte| !byte.is_ascii_digit()).filter(|word| !word.is_empty());
     for (number, word) in found.iter_mut().zip(words) {
-        *number = word.iter().fold(0, |value, digit| value * 10 + u32::from(digit - b'0'));
+        *number = word.iter().fold(0, with_digit);
     }
     found
+}
+
+/// A digit more; past nine digits no more is read.
+fn with_digit(number: u32, digit: &u8) -> u32 {
+    if number < 100_000_000 {
+        number * 10 + u32::from(digit - b'0')
+    } else {
+        number
+    }
 }
 
 /// All different, in no order, and none infinity.
@@ -96,7 +105,7 @@ impl Bench {
         Ok(Ending { answer: REFUSED, steps: 0 })
     }
 
-    /// How many inserts it took to fill the tree, the last one's full among them.
+    /// Inserts, so many or until one is full; how many were tried.
     fn fill(&mut self, keys: u32) -> u32 {
         for count in 0..keys {
             if self.operate(INSERT, key_of(count)).is_over() {
@@ -106,7 +115,7 @@ impl Bench {
         keys
     }
 
-    /// Half of the keys searched are in the tree.
+    /// Half of the keys sought were inserted.
     fn find_all(&mut self, count: u32, finds: u32) {
         let mut j = 0;
         for _ in 0..finds {
@@ -115,7 +124,7 @@ impl Bench {
         }
     }
 
-    /// The oldest key goes, a new one comes.
+    /// The oldest key goes, a new one comes, so many times or until there is no room.
     fn change_all(&mut self, count: u32, changes: u32) {
         for i in 0..changes {
             let ending = if i % 2 == 0 {
@@ -135,5 +144,22 @@ impl Bench {
         let mut text = format!("yes={yes} no={no} full={full} refused={refused} steps={}", self.tally.steps);
         let _ = writeln!(text, " nodes={nodes} records={records} sum={}", self.tally.sum);
         text
+    }
+}
+
+#[cfg(test)]
+mod tests {
+    use super::*;
+
+    #[test]
+    fn the_proved_program_prints_the_same() {
+        let printed = run(include_bytes!("../../crates/speed/stdin"));
+        assert_eq!(printed, include_bytes!("../../crates/speed/stdout"));
+    }
+
+    #[test]
+    fn a_refused_making_has_every_operation_refused() {
+        let printed = run(b"k=9 nodes=4096 records=1 keys=2 finds=3 changes=4 rounds=1");
+        assert!(printed.starts_with(b"yes=0 no=0 full=0 refused=5 steps=0 "));
     }
 }

@@ -1,2 +1,3 @@
--- What the timed program says of its own loop over the step call.
+-- What the timed program says of its own use of the calls.
 pub mod Steps
+pub mod Operation

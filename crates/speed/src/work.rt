@@ -3,6 +3,7 @@ ghost use mathlib.Core.Path.{_≡_};
 ghost use Prim.Native.Nat.{_+_, _*_, _%_};
 ghost use Rattle.index.specs.Calls.{startCall};
 ghost use Rattle.speed.specs.Steps.{leftAfter, stepsOut, stepsFrom};
+ghost use Rattle.speed.specs.Operation.{endingOf, operateOut, operateOf};
 use index::held;
 use process::Process;
 use process::StepAnswer;
@@ -89,7 +90,9 @@ fn steps(block: &mut [u32], held: [Process; 1], before: StepAnswer, most: u32) -
     answer
 }
 
-fn ending_of(answer: StepAnswer) -> Ending {
+fn ending_of(answer: StepAnswer) -> Ending
+    ensures { λ r. ⌜ r ≡ endingOf answer ⌝ }
+{
     match answer {
         StepAnswer::GoesOn => Ending {
             answer: REFUSED,
@@ -107,7 +110,9 @@ fn ending_of(answer: StepAnswer) -> Ending {
 }
 
 // One operation of process 1, from its start to its answer.
-fn operate(block: &mut [u32], operation: u32, key: u32) -> Ending {
+fn operate(block: &mut [u32], operation: u32, key: u32) -> Ending
+    ensures { λ r. ⌜ operateOut r (now (block .exit)) ≡ operateOf (now (block .entry)) operation key ⌝ }
+{
     let idle = [process::idle_record(); 1];
     let started = begin(block, idle, operation, key);
     let answer = steps(block, started, StepAnswer::GoesOn, MOST_STEPS);
