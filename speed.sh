@@ -23,7 +23,7 @@ tools=${RATTLE_HOME:-$kit}/on/$(uname -m)/toolchain
 run=("$tools/lib/ld-linux-x86-64.so.2" --library-path "$tools/lib")
 if [ -x "$tools/bin/qemu-x86_64" ]; then
     run=("$tools/bin/qemu-x86_64" -E GLIBC_TUNABLES=glibc.cpu.x86_rep_movsb_threshold=1000000 "${run[@]}")
-    echo "under an emulator: its times say little of a processor's"
+    echo "Under an emulator: its times say little of a processor's."
 fi
 ours=("${run[@]}" "$program")
 peer=("${run[@]}" "$room/peer" speed)
@@ -38,9 +38,9 @@ if [ "$(uname -m)" = x86_64 ]; then
     fi
 fi
 case $counter in
-perf) echo "instructions: counted by the processor" ;;
-valgrind) echo "instructions: counted by valgrind's callgrind" ;;
-none) echo "instructions: nothing here can count them" ;;
+perf) echo "Instructions are counted by the processor." ;;
+valgrind) echo "Instructions are counted by valgrind's callgrind: this machine's processor cannot be asked." ;;
+none) echo "Instructions: nothing here can count them." ;;
 esac
 instructions() { # INPUT COMMAND..
     local input=$1
@@ -67,10 +67,11 @@ printed() { # INPUT
     cat "$room/ours"
 }
 
-# One line: what the work with `more` costs beyond the work with `none` of it, for an operation. Times are of `timed` as a whole.
+# One line. Tree afterwards, operations, their steps and instructions: the work `more` less the work `none`, for one operation.
+# Microseconds of one of our operations, and the ratio of times: of all that `timed` does.
 row() { # K KEYS TIMED MORE NONE
-    local with without i
-    printed "$3" > /dev/null
+    local whole with without i input
+    whole=$(printed "$3")
     with=$(printed "$4")
     without=$(printed "$5")
     for ((i = 0; i < runs; i++)); do
@@ -80,10 +81,9 @@ row() { # K KEYS TIMED MORE NONE
     {
         echo "$1 $2 $(sort -n "$room/ours.times" | head -n 1) $(sort -n "$room/peer.times" | head -n 1)"
         for input in "$4" "$5"; do echo "$(instructions "$input" "${ours[@]}") $(instructions "$input" "${peer[@]}")"; done
-        echo "$with"
-        echo "$without"
+        printf '%s\n' "$with" "$without" "$whole"
     } | awk '
-        NR == 1 { k = $1; keys = $2; t = $3 / $4 }
+        NR == 1 { k = $1; keys = $2; t = $3; u = $4 }
         NR == 2 { a = $1; b = $2 }
         NR == 3 { a -= $1; b -= $2 }
         NR > 3 { gsub(/[a-z]+=/, ""); ends[NR] = $1 + $2 + $3 + $4; steps[NR] = $5; nodes[NR] = $6; records[NR] = $7 }
@@ -91,7 +91,7 @@ row() { # K KEYS TIMED MORE NONE
             n = ends[4] - ends[5]
             printf "%2d %6s %6d %7d %7d %7.1f", k, keys, nodes[4], records[4], n, (steps[4] - steps[5]) / n
             if (b > 0) printf " %9.0f %9.0f %6.2f", a / n, b / n, a / b; else printf " %9s %9s %6s", "-", "-", "-"
-            printf " %6.2f\n", t
+            printf " %6.2f %6.2f\n", 1e6 * t / ends[6], t / u
         }'
     rm "$room/ours.times" "$room/peer.times"
 }
@@ -99,10 +99,10 @@ row() { # K KEYS TIMED MORE NONE
 heading() {
     echo
     echo "$1"
-    echo " k   keys  nodes records  number   steps      ours      peer  ratio   time"
+    echo " k   keys  nodes records  number   steps      ours      peer  ratio     us   time"
 }
 
-heading "Finds, half of them of keys in the tree; keys=all fills 4,096 nodes. Instructions of a find, and their ratio; time ratio of 5 fillings with 100,000 finds each."
+heading "A find, half of them of keys in the tree (all: as many as 4,096 nodes hold). Times: 5 fillings with 100,000 finds each."
 for k in 2 4 8; do
     for keys in 10 100 1000 all; do
         tree="k=$k nodes=4096 records=4096 keys=${keys/all/4096}"
@@ -110,7 +110,7 @@ for k in 2 4 8; do
     done
 done
 
-heading "A key goes, a key comes, until all 2,000 records are used. Instructions of one change, and their ratio; time ratio of 100 fillings with changes."
+heading "A change: a key goes, a key comes, until all 2,000 records are used. Times: 100 fillings with their changes."
 for k in 2 4 8; do
     for keys in 10 100 600; do
         tree="k=$k nodes=4096 records=2000 keys=$keys"
@@ -118,7 +118,7 @@ for k in 2 4 8; do
     done
 done
 
-heading "The filling alone, until the nodes are used. Instructions of one insert, and their ratio; time ratio of 100 fillings."
+heading "An insert: the filling alone, until the nodes are used. Times: 100 fillings."
 for k in 2 4 8; do
     tree="k=$k nodes=4096 records=4096"
     row $k all "$tree keys=4096 finds=0 changes=0 rounds=100" "$tree keys=4096 finds=0 changes=0 rounds=1" "$tree keys=0 finds=0 changes=0 rounds=1"
