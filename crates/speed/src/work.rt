@@ -1,9 +1,10 @@
 // The work that is timed: a tree is made and filled, keys are sought in it, and keys go and come until there is no room.
 ghost use mathlib.Core.Path.{_≡_};
-ghost use Prim.Native.Nat.{_+_, _*_, _%_};
+ghost use mathlib.Core.Bool.{false};
 ghost use Rattle.index.specs.Calls.{startCall};
 ghost use Rattle.speed.specs.Steps.{leftAfter, stepsOut, stepsFrom};
 ghost use Rattle.speed.specs.Operation.{endingOf, operateOut, operateOf};
+ghost use Rattle.speed.specs.Work.{keyOf, isOver, oneIf, mixedOf, talliedOf, nothingYet, periodOf, askedOf, changeOf, turnOut, turnOf, doneOut, doneFrom, freshOf, roundOut, roundOf, roundsFrom};
 use index::held;
 use process::Process;
 use process::StepAnswer;
@@ -44,14 +45,34 @@ pub struct Tally {
     pub sum: u32,
 }
 
-struct Filled {
+// A tree is filled, then keys are sought in it, then keys go and come.
+enum Part {
+    Filling,
+    Finding,
+    Changing,
+}
+
+// An operation, and the number of its key.
+struct Asked {
+    operation: u32,
+    number: u32,
+}
+
+// The tally after an operation, and whether it is the last of its part.
+struct Counted {
+    tally: Tally,
+    over: bool,
+}
+
+// The tally after a part, and how many operations were tried.
+struct Done {
     tally: Tally,
     count: u32,
 }
 
 // Keys that are all different, in no order, and below infinity.
 fn key_of(i: u32) -> u32
-    ensures { λ r. ⌜ r ≡ ((i + 1) * 2654435761) % 4294967291 ⌝ }
+    ensures { λ r. ⌜ r ≡ keyOf i ⌝ }
 {
     (((i as u64) + 1) * 2654435761 % PRIME) as u32
 }
@@ -119,22 +140,28 @@ fn operate(block: &mut [u32], operation: u32, key: u32) -> Ending
     ending_of(answer)
 }
 
-// No more of its kind will be done.
-fn is_over(e: Ending) -> bool {
-    e.answer > 1
+// Full or refused: no more of its part is done.
+fn is_over(e: Ending) -> bool
+    ensures { λ r. ⌜ r ≡ isOver e ⌝ }
+{
+    tables::choice::below(1, e.answer as u64)
 }
 
-fn one_if(answer: u32, wanted: u32) -> u64 {
+fn one_if(answer: u32, wanted: u32) -> u64
+    ensures { λ r. ⌜ r ≡ oneIf answer wanted ⌝ }
+{
     if answer == wanted { 1 } else { 0 }
 }
 
 fn mixed(sum: u32, answer: u32, steps: u32) -> u32
-    ensures { λ r. ⌜ r ≡ (sum * 31 + steps * 4 + answer) % 4294967291 ⌝ }
+    ensures { λ r. ⌜ r ≡ mixedOf sum answer steps ⌝ }
 {
     (((sum as u64) * 31 + (steps as u64) * 4 + (answer as u64)) % PRIME) as u32
 }
 
-fn tallied(t: Tally, e: Ending) -> Tally {
+fn tallied(t: Tally, e: Ending) -> Tally
+    ensures { λ r. ⌜ r ≡ talliedOf t e ⌝ }
+{
     let a = e.answer;
     Tally {
         yes: std::num::wrapping_add_u64(t.yes, one_if(a, 1)),
@@ -146,7 +173,9 @@ fn tallied(t: Tally, e: Ending) -> Tally {
     }
 }
 
-pub fn nothing() -> Tally {
+fn nothing() -> Tally
+    ensures { λ r. ⌜ r ≡ nothingYet ⌝ }
+{
     Tally {
         yes: 0,
         no: 0,
@@ -157,73 +186,101 @@ pub fn nothing() -> Tally {
     }
 }
 
-// Inserts, so many or until one is full; how many were tried.
-fn fill(block: &mut [u32], keys: u32, t: Tally) -> Filled {
-    let mut tally = t;
-    let mut count: u32 = 0;
-    let mut over = false;
-    while count < keys && !over {
-        let e = operate(block, process::INSERT, key_of(count));
-        tally = tallied(tally, e);
-        over = is_over(e);
-        count += 1;
-    }
-    Filled { tally, count }
+// Finds come round again after twice as many keys as were inserted, so that half of those sought were.
+fn period(count: u32) -> u32
+    ensures { λ r. ⌜ r ≡ periodOf count ⌝ }
+{
+    if count < 1000000 { 2 * count + 2 } else { 1 }
 }
 
-// Half of the keys sought were inserted.
-fn find_all(block: &mut [u32], count: u32, finds: u32, t: Tally) -> Tally {
-    let mut tally = t;
-    let mut i: u32 = 0;
-    let mut j: u32 = 0;
-    while i < finds {
-        let e = operate(block, process::FIND, key_of(j));
-        tally = tallied(tally, e);
-        j = if j / 2 < count {
-            std::num::wrapping_add_u32(j, 1)
-        } else {
-            0
-        };
-        i += 1;
+// What operation i of a part asks, where so many keys were inserted. In a change the oldest key goes, or a new one comes.
+fn asks(part: Part, count: u32, i: u32) -> Asked
+    ensures { λ r. ⌜ r ≡ askedOf part count i ⌝ }
+{
+    match part {
+        Part::Filling => Asked {
+            operation: process::INSERT,
+            number: i,
+        },
+        Part::Finding => {
+            let m = period(count);
+            Asked {
+                operation: process::FIND,
+                number: i % m,
+            }
+        }
+        Part::Changing => change(count, i),
     }
-    tally
 }
 
-// The oldest key goes, or a new one comes.
-fn change(block: &mut [u32], count: u32, i: u32) -> Ending {
+fn change(count: u32, i: u32) -> Asked
+    ensures { λ r. ⌜ r ≡ changeOf count i ⌝ }
+{
     if i % 2 == 0 {
-        operate(block, process::DELETE, key_of(i / 2))
+        Asked {
+            operation: process::DELETE,
+            number: i / 2,
+        }
     } else {
-        let new = std::num::wrapping_add_u32(count, i / 2);
-        operate(block, process::INSERT, key_of(new))
+        Asked {
+            operation: process::INSERT,
+            number: std::num::wrapping_add_u32(count, i / 2),
+        }
     }
 }
 
-// So many changes, or until one is full.
-fn change_all(block: &mut [u32], count: u32, changes: u32, t: Tally) -> Tally {
+// Operation i of a part.
+fn turn(block: &mut [u32], part: Part, count: u32, i: u32, t: Tally) -> Counted
+    ensures { λ r. ⌜ turnOut r (now (block .exit)) ≡ turnOf part count i t (now (block .entry)) ⌝ }
+{
+    let a = asks(part, count, i);
+    let e = operate(block, a.operation, key_of(a.number));
+    let tally = tallied(t, e);
+    let over = is_over(e);
+    Counted { tally, over }
+}
+
+// So many operations of a part, or until one is over.
+fn perform(block: &mut [u32], part: Part, count: u32, number: u32, t: Tally) -> Done
+    ensures { λ r. ⌜ doneOut r (now (block .exit)) ≡ doneFrom part count number 0 false t (now (block .entry)) ⌝ }
+{
     let mut tally = t;
     let mut i: u32 = 0;
     let mut over = false;
-    while i < changes && !over {
-        let e = change(block, count, i);
-        tally = tallied(tally, e);
-        over = is_over(e);
+    while i < number && !over {
+        let c = turn(block, part, count, i, tally);
+        let after = c.tally;
+        tally = after;
+        over = c.over;
         i += 1;
     }
-    tally
+    Done { tally, count: i }
 }
 
-// A tree for one process, and all that is to be done on it.
-fn round(block: &mut [u32], w: Work, t: Tally) -> Tally {
+// A fresh tree for one process; a making that is refused leaves the block as it was.
+fn fresh(block: &mut [u32], w: Work)
+    ensures { λ _. ⌜ now (block .exit) ≡ freshOf w (now (block .entry)) ⌝ }
+{
     let row = [process::idle_record(); 32];
     held::make_held(block, row, w.k, 1, w.nodes, w.records);
-    let f = fill(block, w.keys, t);
-    let filled = f.tally;
-    let found = find_all(block, f.count, w.finds, filled);
-    change_all(block, f.count, w.changes, found)
 }
 
-pub fn rounds(block: &mut [u32], w: Work) -> Tally {
+// A tree, and all that is to be done on it.
+fn round(block: &mut [u32], w: Work, t: Tally) -> Tally
+    ensures { λ r. ⌜ roundOut r (now (block .exit)) ≡ roundOf w t (now (block .entry)) ⌝ }
+{
+    fresh(block, w);
+    let f = perform(block, Part::Filling, 0, w.keys, t);
+    let filled = f.tally;
+    let s = perform(block, Part::Finding, f.count, w.finds, filled);
+    let sought = s.tally;
+    let c = perform(block, Part::Changing, f.count, w.changes, sought);
+    c.tally
+}
+
+pub fn rounds(block: &mut [u32], w: Work) -> Tally
+    ensures { λ r. ⌜ roundOut r (now (block .exit)) ≡ roundsFrom (w .rounds) w nothingYet (now (block .entry)) ⌝ }
+{
     let mut tally = nothing();
     let mut i: u32 = 0;
     while i < w.rounds {
