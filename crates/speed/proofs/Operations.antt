@@ -1,5 +1,5 @@
 -- What an operation comes to, from what its start and its steps come to.
-use mathlib.Core.Path.{_≡_, refl, sym, _∙_, ap}
+use mathlib.Core.Path.{_≡_, refl, _∙_, ap}
 use Prim.Native.Nat.{ℕ}
 use mathlib.Core.List.{List}
 use lib.ListN.{replicate}
@@ -11,7 +11,7 @@ use Rattle.process.specs.declared.StepAnswer.{StepAnswer}
 use Rattle.process.specs.declared.StepAnswer.the-variants as steps
 use Rattle.tables.specs.declared.numbers.Refusal.{Refusal}
 use Rattle.index.specs.Calls.{startCall}
-use Rattle.speed.specs.Steps.{StepsOut, stepsOut, stepsFrom}
+use Rattle.speed.specs.Steps.{stepsOut, stepsFrom}
 use Rattle.speed.specs.Operation.{endingOf, operateOut, operateAs, operateOf}
 use Rattle.speed.specs.declared.work.Ending.{Ending}
 

@@ -4,7 +4,7 @@ use mathlib.Core.List.{List}
 use Rattle.process.specs.declared.Process.{Process}
 use Rattle.process.specs.declared.StepAnswer.{StepAnswer}
 use Rattle.process.specs.declared.StepAnswer.the-variants as steps
-use Rattle.index.specs.Calls.{StepOut, stepCall}
+use Rattle.index.specs.Calls.{stepCall}
 
 -- how many steps are still allowed after one that said this
 abbrev pub leftAfter : ℕ → StepAnswer → ℕ

@@ -25,8 +25,8 @@ use types.Run.{look, init, store, forget, stop, hop, fld, from, load, lit, addr,
 use types.Part.{agg, whole, sub, look-in}
 use types.Tokens.{lft-new, lft-end}
 use sound.WpLaws.{fmOf, WpFn-mono}
-use denote.Array.{Array, array-vals, array-tells, array-lawful, array-makes}
-use denote.RattleType.{RattleType, owns}
+use denote.Array.{array-vals, array-tells, array-lawful, array-makes}
+use denote.RattleType.{owns}
 use denote.Laws.{Is, shows}
 use denote.Lend.{Held as HeldBy}
 use denote.Memory.{pointee}
