@@ -13,6 +13,7 @@ mod random;
 mod rules;
 mod runs;
 mod script;
+mod speed;
 mod step;
 mod story;
 mod watch;
@@ -23,6 +24,7 @@ use std::process::ExitCode;
 
 const USAGE: &str = "\
 peer bench                            what the bench prints for the standard input
+peer speed                            what the speed program prints for the standard input
 peer runs                             the runs (a) to (j), the example and the runs-only numbers
 peer script SEED                      the random bench script of a seed
 peer expect FIRST COUNT FOLDER        SEED.in and SEED.out for COUNT seeds
@@ -44,7 +46,8 @@ fn main() -> ExitCode {
 
 fn called(words: &[&str]) -> Option<ExitCode> {
     Some(match *words {
-        ["bench"] => run_bench(),
+        ["bench"] => run_on_input(bench::run),
+        ["speed"] => run_on_input(speed::run),
         ["runs"] => runs::check(),
         ["script", seed] => print(&script::script(number(seed)?)),
         ["expect", first, count, folder] => compare::expect(number(first)?, number(count)?, folder),
@@ -71,12 +74,12 @@ fn print(bytes: &[u8]) -> ExitCode {
     }
 }
 
-fn run_bench() -> ExitCode {
+fn run_on_input(program: fn(&[u8]) -> Vec<u8>) -> ExitCode {
     let mut input = Vec::new();
     if std::io::stdin().read_to_end(&mut input).is_err() {
         return ExitCode::FAILURE;
     }
-    print(&bench::run(&input))
+    print(&program(&input))
 }
 
 fn all_faults(first: u64, count: u64) -> ExitCode {
