@@ -23,11 +23,14 @@ use Rattle.history.specs.Shared.{Desc, Shared}
 use Rattle.history.specs.Change.{Drawn, put-leaf, out-leaf, sprout, draw-replace, draw-prune, swap-replace, unflag-replace, mark, swap-prune, unflag-prune}
 use Rattle.history.specs.Effects.{SameSet, SetMoves, adds, removes, Moved, swaps}
 use Rattle.history.specs.Run.{Step, changes, rests, step-swaps, Moment}
+use Rattle.history.proofs.Invariant.{Sound}
+use Rattle.link.specs.Tables.{tablesOf}
 use Rattle.link.specs.Events.{Event, start, step, State, taken, stepIn, eventAt, stateAt, blockAt, headerAt, sinceAt}
 use Rattle.link.specs.Swaps.{ChildSwap}
 use Rattle.link.specs.Operations.{Started, BusyWith, OperationOf, Answered}
 use Rattle.link.specs.Sets.{tablesAt, viewAt, InSet}
-use Rattle.link.proofs.Moments.{Why, no-room, found, missing, there, not-there, did}
+use Rattle.link.proofs.Writes.{Fit}
+use Rattle.link.proofs.Moments.{now-sound, Why, no-room, found, missing, there, not-there, did}
 use Rattle.link.proofs.Clauses as link
 use Rattle.link.proofs.Clauses.{Reached, k-at, step-at}
 use Rattle.link.proofs.Beyond.{step-behind}
@@ -37,7 +40,7 @@ use Rattle.link.proofs.Story.{Story, story}
 use Rattle.link.proofs.Answers as told-of
 use Rattle.link.proofs.Answers.{told, Drawn as DrawnSince}
 use Rattle.link.proofs.Origins.{Comes, comes}
-use Rattle.survey.proofs.Clauses as survey
+use Rattle.survey.proofs.Calls as survey
 use Rattle.claim.proofs.Operations.{start-same, since-start, since-between, busy-is, one-operation, its-operation, draws-it, still-busy, drawn-late, ended, started-place}
 use Rattle.claim.specs.Claim.{Claim, Listing, Range, clear, met, Changes, put-in, taken-out, SwapOf, Drawing, nothing, a-leaf, a-sprout, a-prune}
 
@@ -287,17 +290,23 @@ module _ {s : State} {es : List Event} (reached : Reached s es) where
       go (changes (unflag-prune q h kd e x w same)) = nothing (same .records-same) (same .nodes-same)
       go (rests e) = nothing (e .tables .records-same) (e .tables .nodes-same)
 
+  fit : (m : ℕ) → Fit (headerAt s es m) (blockAt s es m)
+  fit m = link.good reached m .now .fit
+
+  sound : (m : ℕ) → Sound (headerAt s es m .k) (tablesOf (headerAt s es m) (blockAt s es m))
+  sound m = now-sound (link.good reached m .now)
+
   listing : (m : ℕ) → Listing s es m
   listing m = record {
     keys = keysMet (blockAt s es m);
-    set = survey.keys-list reached m;
-    call = survey.list-answers reached m;
-    twin = survey.part-answers reached m;
-    short = survey.list-too-short reached m;
+    set = survey.keys-list (fit m) (sound m);
+    call = survey.list-answers (fit m) (sound m);
+    twin = survey.part-answers (fit m) (sound m);
+    short = survey.list-too-short (fit m) (sound m);
   }
 
   range : (m low high : ℕ) → low ≤ high → high < infinity → Range s es m low high
-  range m low high l h = go (survey.range-answers reached m low high p q l)
+  range m low high l h = go (survey.range-answers (fit m) (sound m) low high p q l)
     where
       p : low ≢ infinity
       p e = omega arith
@@ -306,8 +315,8 @@ module _ {s : State} {es : List Event} (reached : Reached s es) where
       q e = omega arith
 
       go : (rangeOf (blockAt s es m) low high ≡ cleared.Yes) ⊎ (rangeOf (blockAt s es m) low high ≡ cleared.No) → Range s es m low high
-      go (inl e) = clear e (survey.range-yes reached m low high p q l .0 e)
-      go (inr e) = met e (survey.range-no reached m low high p q l .0 e)
+      go (inl e) = clear e (survey.range-yes (fit m) (sound m) low high p q l .0 e)
+      go (inr e) = met e (survey.range-no (fit m) (sound m) low high p q l .0 e)
 
   words-beyond : (m i : ℕ) → blockWords (headerAt s es m) ≤ i → getD (blockAt s es (suc m)) i 0 ≡ getD (blockAt s es m) i 0
   words-beyond m i l = by (eventAt es m) refl

@@ -8,7 +8,8 @@ use native.Mathlib.Omega.{arith}
 use native.Mathlib.Decide.{ℕ-discrete, decLt}
 use lib.Dec.{eqb}
 use borrow.Author.Tests.{eqb-true, eq-eqb}
-use Rattle.tables.specs.Choice.{pick, both}
+use Rattle.tables.specs.Choice.{pick}
+use Rattle.tables.proofs.Picks.{both-1, both-2, both-is}
 use Rattle.process.specs.declared.Process.{Process}
 use Rattle.process.specs.declared.Answer.{Answer}
 use Rattle.process.specs.declared.StepAnswer.the-variants.{GoesOn, Ended}
@@ -25,9 +26,8 @@ use Rattle.history.specs.Change.{draw-replace, draw-prune, swap-replace, unflag
 use Rattle.history.specs.Run.{Step, changes, rests}
 use Rattle.link.specs.Events.{Event, start, step, State, taken, startIn, stepIn, eventAt, stateAt, blockAt, headerAt, isAccepted, starts, isAnswered, steppedBy, sinceAt}
 use Rattle.link.specs.Operations.{Started, BusyWith, Draws, OperationOf, Answered}
-use Rattle.link.proofs.Checks.{both-is}
 use Rattle.link.proofs.Moments.{tables, Follows, already, afterwards, answers}
-use Rattle.link.proofs.Reached.{taken-own, taken-other, state-is}
+use Rattle.link.proofs.Reached.{step-one, taken-own, taken-other, state-is}
 use Rattle.link.proofs.Stepping.{turn}
 use Rattle.link.proofs.Outcomes.{Outcome, nothing, begun, moved, outcome}
 use Rattle.link.proofs.Clauses.{Reached, good, step-at, grows, processes-at}
@@ -36,25 +36,12 @@ use Rattle.link.proofs.Answers.{Drawn}
 use Rattle.link.proofs.Origins.{comes}
 use Rattle.link.proofs.Owners.{owned}
 
-both-left : (t u : Bool) → both t u ≡ true → t ≡ true
-unfolding both
-both-left true u e = refl
-both-left false u e = e
-
-both-right : (t u : Bool) → both t u ≡ true → u ≡ true
-unfolding both
-both-right true u e = e
-both-right false u e = let z : _≡_ {A = ℕ} 0 1 = cc in absurd (omega arith)
-
 accepts : (a : StartAnswer) → isAccepted a ≡ true → a ≡ Accepted
 accepts Accepted e = refl
 accepts (Refused x) e = let z : _≡_ {A = ℕ} 0 1 = cc in absurd (omega arith)
 
 pub start-same : (n n′ o o′ x x′ : ℕ) → start n o x ≡ start n′ o′ x′ → (n ≡ n′) × (o ≡ o′) × (x ≡ x′)
 start-same n n′ o o′ x x′ e = (cc, cc, cc)
-
-step-same : (n n′ : ℕ) → step n ≡ step n′ → n ≡ n′
-step-same n n′ e = cc
 
 -- event i is an accepted start of process n
 pub record StartAt (s : State) (es : List Event) (i n : ℕ) : Type 0 where
@@ -69,13 +56,13 @@ module _ (s : State) (es : List Event) where
     where
       go : (x : Event) → eventAt es i ≡ x → starts (stateAt s es i) x n ≡ true → StartAt s es i n
       go (start p o x) z f =
-          let same : p ≡ n = eqb-true p n (both-left (eqb p n) (isAccepted (startIn (stateAt s es i) p o x .answer)) f) in
+          let same : p ≡ n = eqb-true p n (both-1 (eqb p n) (isAccepted (startIn (stateAt s es i) p o x .answer)) f) in
           record {
             operation = o;
             key = x;
             started = record {
               event = z ∙ ap (λ (y : ℕ). start y o x) same;
-              accepted = subst (λ (y : ℕ). startIn (stateAt s es i) y o x .answer ≡ Accepted) same (accepts (startIn (stateAt s es i) p o x .answer) (both-right (eqb p n) (isAccepted (startIn (stateAt s es i) p o x .answer)) f));
+              accepted = subst (λ (y : ℕ). startIn (stateAt s es i) y o x .answer ≡ Accepted) same (accepts (startIn (stateAt s es i) p o x .answer) (both-2 (eqb p n) (isAccepted (startIn (stateAt s es i) p o x .answer)) f));
             };
             starts-it = e;
           }
@@ -161,7 +148,7 @@ module _ {s : State} {es : List Event} (reached : Reached s es) where
   one-operation r i i′ a b =
       let t : a .when ≡ b .when = draw-once (a .when) (b .when) (a .process) (b .process) r (a .draws) (b .draws) in
       let e : step (a .process) ≡ step (b .process) = sym (a .draws .event) ∙ ap (eventAt es) t ∙ b .draws .event in
-      let n : a .process ≡ b .process = step-same (a .process) (b .process) e in
+      let n : a .process ≡ b .process = step-one (a .process) (b .process) e in
       let z : sinceAt s es (a .process) (a .when) ≡ sinceAt s es (b .process) (b .when) = ap (λ (y : ℕ). sinceAt s es y (a .when)) n ∙ ap (sinceAt s es (b .process)) t in
       omega (arith, a .busy .last, b .busy .last)
 
@@ -206,7 +193,7 @@ module _ {s : State} {es : List Event} (reached : Reached s es) where
   draw-process t n r d =
       let c = comes reached (suc t) r (used-new t n r d) in
       let z : c .when ≡ t = draw-once (c .when) t (c .n) n r (draws-it (suc t) r (used-new t n r d)) d in
-      c .process ∙ step-same (c .n) n (sym (c .event) ∙ ap (eventAt es) z ∙ d .event)
+      c .process ∙ step-one (c .n) n (sym (c .event) ∙ ap (eventAt es) z ∙ d .event)
 
   pub still-busy : (t n r i : ℕ) → Draws s es t n r → BusyWith s es t n i → BusyWith s es (suc t) n i
   unfolding sinceAt pick
@@ -236,7 +223,7 @@ module _ {s : State} {es : List Event} (reached : Reached s es) where
       go (moved p u z y e f g g′) = subst (λ (q : ℕ). taken (W (suc m)) q .operation ≡ 0) same (by (turn (good reached m .now) (taken (W m) p) y .follows))
         where
           same : p ≡ n
-          same = step-same p n (sym z ∙ x .event)
+          same = step-one p n (sym z ∙ x .event)
 
           says : stepIn (W m) p .answer ≡ Ended a c
           says = subst (λ (q : ℕ). stepIn (W m) q .answer ≡ Ended a c) (sym same) (x .answer)

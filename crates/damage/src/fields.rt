@@ -87,7 +87,7 @@ fn numbers_good(h: Header, q: Process) -> bool
     )
 }
 
-// No node, or an internal one.
+// "gp internal"; 0 as long as the search has not gone down once.
 fn no_or_internal(block: &[u32], h: Header, node: u32) -> bool
     ensures { λ r. ⌜ r ≡ zeroOr node (isInternal (kinOf (now (block .entry)) h node)) ⌝ }
 {
@@ -95,7 +95,7 @@ fn no_or_internal(block: &[u32], h: Header, node: u32) -> bool
     zero_or(node, internal)
 }
 
-// No node, or a leaf.
+// "l a leaf"; 0 before the search has met one.
 fn no_or_leaf(block: &[u32], h: Header, node: u32) -> bool
     ensures { λ r. ⌜ r ≡ zeroOr node (isLeaf (kinOf (now (block .entry)) h node)) ⌝ }
 {
@@ -103,7 +103,7 @@ fn no_or_leaf(block: &[u32], h: Header, node: u32) -> bool
     zero_or(node, leaf)
 }
 
-// No node, or a good one.
+// 0 until row 11 has noted a child.
 fn no_or_node(block: &[u32], h: Header, node: u32) -> bool
     ensures { λ r. ⌜ r ≡ zeroOr node (isNode (kinOf (now (block .entry)) h node)) ⌝ }
 {
@@ -121,7 +121,7 @@ fn nodes_good(block: &[u32], h: Header, q: Process) -> bool
     choice::and(a, choice::and(b, choice::and(c, d)))
 }
 
-// No record, or one in use.
+// 0 until something is helped, or drawn.
 fn no_or_used(h: Header, number: u32) -> bool
     ensures { λ r. ⌜ r ≡ leb number (h .recordsused) ⌝ }
 {

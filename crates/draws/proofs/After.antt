@@ -20,7 +20,7 @@ use Rattle.tables.specs.Pending.{replaceKind}
 use Rattle.tables.specs.declared.header.Header.{Header}
 use Rattle.tables.proofs.Picks.{both-1, both-2, pick-true}
 use Rattle.tables.proofs.Lists.{length-listed, getD-listed₀}
-use Rattle.tables.proofs.Places.{header-node, header-record, node-record, read-same, read-other, node-same, node-other, record-same, record-other}
+use Rattle.tables.proofs.Places.{header-node, header-record, node-record, header-word, node-word, read-same, read-other, node-same, node-other, record-same, record-other}
 use Rattle.draws.specs.declared.Job.{Job}
 use Rattle.draws.specs.Draw.{newNode, newRecord, roomFor, sprouts, neededNodes, newKeys, newCount, leafDrawn, largest, leavesFrom, sproutLeaves, sproutDrawn, nodesDrawn, recordImage, recordDrawn, committed, replaceDrawn}
 
@@ -31,13 +31,6 @@ pub record Room (h : Header) (needed : ℕ) : Type 0 where
 
 pub room-is : (h : Header) (needed : ℕ) → roomFor h needed ≡ true → Room h needed
 room-is h needed e = record { record-left = ltb-true _ _ (both-1 _ _ e); nodes-left = leb-true _ _ (both-2 _ _ e) }
-
--- places of different rows or words
-header-one : (i k : ℕ) → inHeader i ≡ inHeader k → i ≡ k
-header-one i k e = cc
-
-node-one : (n o m u : ℕ) → inNode n o ≡ inNode m u → n ≡ m
-node-one n o m u e = cc
 
 -- the new record, both used counts and the flag
 module _ (b : List ℕ) (h : Header) (kind third expected needed : ℕ) (j : Job) (flagged : ℕ) where
@@ -90,7 +83,7 @@ module _ (b : List ℕ) (h : Header) (kind third expected needed : ℕ) (j : Job
       unfolding committed
       committed-nodes =
           read-other h thrice flag (4 * newRecord h + kind) flag-in (inHeader 3) (omega arith) (λ e. header-node 3 flagged _ (sym e))
-          ∙ read-other h twice (inHeader 5) (newRecord h) (omega arith) (inHeader 3) (omega arith) (λ e. omega (arith, header-one 5 3 e))
+          ∙ read-other h twice (inHeader 5) (newRecord h) (omega arith) (inHeader 3) (omega arith) (λ e. omega (arith, header-word 5 3 e))
           ∙ read-same h once (inHeader 3) (h .nodesused + needed) (omega arith) (simp length-set long)
 
       pub committed-records : getD after 5 0 ≡ newRecord h
@@ -102,7 +95,7 @@ module _ (b : List ℕ) (h : Header) (kind third expected needed : ℕ) (j : Job
       -- the header's other words
       header-kept : (i : ℕ) → i < 6 → (3 ≡ i → ⊥) → (5 ≡ i → ⊥) → getD after i 0 ≡ getD b i 0
       header-kept i p d₃ d₅ =
-          committed-other (inHeader i) p (λ e. d₃ (header-one 3 i e)) (λ e. d₅ (header-one 5 i e)) (λ e. header-node i flagged _ (sym e)) (λ f e. header-record i _ f (sym e))
+          committed-other (inHeader i) p (λ e. d₃ (header-word 3 i e)) (λ e. d₅ (header-word 5 i e)) (λ e. header-node i flagged _ (sym e)) (λ f e. header-record i _ f (sym e))
 
       pub committed-header : headerOf b ≡ h →
           headerOf after ≡ headerFrom (h .k) (h .processes) (h .nodes) (h .nodesused + needed) (h .records) (newRecord h)
@@ -148,7 +141,7 @@ module _ (h : Header) where
   leaves-same (ks ∷ ls) b first zero o low high long p q =
       rw (add-zero first)
       (leaves-other ls (withNode b h first (leafOf ks)) (first + 1) (omega arith) (omega arith) (inNode first o) (record { from-one = low; to-last = omega arith; within = q })
-      (λ i u r e. omega (arith, node-one (first + 1 + i) u first o e))
+      (λ i u r e. omega (arith, node-word (first + 1 + i) u first o e .0))
       ∙ node-same h b (leafOf ks) first (leaf-length ks) low (omega arith) o q long)
   leaves-same (ks ∷ ls) b first (suc i) o low high long p q =
       let z : first + suc i ≡ first + 1 + i = omega arith in
@@ -182,7 +175,7 @@ module _ (b : List ℕ) (h : Header) (ks : List ℕ) (fits : newNode h + h .k �
     sprout-stem =
         leaves-other h (sproutLeaves h ks) (withNode b h (newNode h) (stemImage h ks)) (newNode h + 1) (omega arith) ends (inNode (newNode h) o)
         (record { from-one = omega arith; to-last = omega arith; within = p })
-        (λ i u r e. omega (arith, node-one (newNode h + 1 + i) u (newNode h) o e))
+        (λ i u r e. omega (arith, node-word (newNode h + 1 + i) u (newNode h) o e .0))
         ∙ node-same h b (stemImage h ks) (newNode h) stem-length (omega arith) (omega arith) o p long
 
     pub sprout-leaf : (i : ℕ) → i < h .k → h .k ≤ keyRoom → nodeWord (sproutDrawn b h ks) h (newNode h + 1 + i) o ≡ getD (leafImage (h .k) 1 (keyArray (getD ks i 0 ∷ []))) o 0
@@ -237,7 +230,7 @@ module _ (b : List ℕ) (h : Header) (j : Job) (count : ℕ) where
     unfolding replaceDrawn
     replace-new n o p q =
         committed-other nodes h replaceKind (newNode h) 0 needs j (j .p) (room .record-left) low (omega (arith, room)) (inNode n o) q (header-node 3 n o) (header-node 5 n o)
-        (λ e. omega (arith, node-one (j .p) _ n o e)) (λ f e. node-record n o _ f (sym e))
+        (λ e. omega (arith, node-word (j .p) _ n o e .0)) (λ f e. node-record n o _ f (sym e))
 
     pub replace-other : (y : Place) → Inside h y → (inHeader 3 ≡ y → ⊥) → (inHeader 5 ≡ y → ⊥) → (inNode (j .p) (pendingPlace (h .k)) ≡ y → ⊥) →
         ((f : ℕ) → inRecord (newRecord h) f ≡ y → ⊥) → ((n o : ℕ) → h .nodesused < n → n ≤ h .nodesused + needs → inNode n o ≡ y → ⊥) →
@@ -251,12 +244,12 @@ module _ (b : List ℕ) (h : Header) (j : Job) (count : ℕ) where
     unfolding replaceDrawn
     replace-length = committed-length nodes h replaceKind (newNode h) 0 needs j (j .p) ∙ nodes-length
 
-    header-word : (i : ℕ) → i < 6 → getD nodes i 0 ≡ getD b i 0
-    header-word i p = nodes-other (room .nodes-left) (inHeader i) p (λ n o q r e. header-node i n o (sym e))
+    nodes-header : (i : ℕ) → i < 6 → getD nodes i 0 ≡ getD b i 0
+    nodes-header i p = nodes-other (room .nodes-left) (inHeader i) p (λ n o q r e. header-node i n o (sym e))
 
     pub replace-header : blockWords h ≤ length b → headerOf b ≡ h →
         headerOf (replaceDrawn b h j count) ≡ headerFrom (h .k) (h .processes) (h .nodes) (h .nodesused + needs) (h .records) (newRecord h)
     unfolding replaceDrawn
     replace-header long e =
         committed-header nodes h replaceKind (newNode h) 0 needs j (j .p) (room .record-left) low (omega (arith, room)) (rw nodes-length long)
-        (rw (header-word 0 (omega arith), header-word 1 (omega arith), header-word 2 (omega arith), header-word 3 (omega arith), header-word 4 (omega arith), header-word 5 (omega arith)) e)
+        (rw (nodes-header 0 (omega arith), nodes-header 1 (omega arith), nodes-header 2 (omega arith), nodes-header 3 (omega arith), nodes-header 4 (omega arith), nodes-header 5 (omega arith)) e)

@@ -15,7 +15,7 @@ use Rattle.tables.specs.Node.{leafImage, internalImage, withNode}
 use Rattle.tables.specs.Keys.{keyArray, sproutOf}
 use Rattle.tables.specs.declared.header.Header.{Header}
 use Rattle.tables.proofs.Picks.{both-2, pick-true}
-use Rattle.tables.proofs.Lists.{get-past, length-listed, getD-listed₀, sets-done}
+use Rattle.tables.proofs.Lists.{left-over, get-past, length-listed, getD-listed₀, sets-done}
 use Rattle.draws.specs.declared.Job.{Job}
 use Rattle.draws.specs.Draw.{putsIn, newRecord, roomFor, sprouts, neededNodes, newKeys, newCount, leafDrawn, largest, leavesFrom, sproutLeaves, sproutDrawn, nodesDrawn, committed, replaceDrawn, pruneDrawn, drawOut, replaceOf, pruneOf}
 
@@ -64,9 +64,6 @@ module _ (ls : List (List ℕ)) (i : ℕ) (n : length ls ≡ 8) where
   leaf-past p = sym (List·getD-eq-default ls (keyArray []) (rw n p))
 
 -- the loop that writes leaf after leaf, the rule f giving the keys of each
-left-over : (n i : ℕ) → i < n → n - i ≡ suc (n - (i + 1))
-left-over n i p = omega arith
-
 module _ (h : Header) (f : ℕ → List ℕ) (first n : ℕ) (b₀ b : List ℕ) (i : ℕ) (inv : leavesFrom b₀ h first (listed f 0 n) ≡ leavesFrom b h (first + i) (listed f i (n - i))) where
   pub leaves-again : (c leaf : List ℕ) → i < n → leaf ≡ f i → c ≡ withNode b h (first + i) (leafImage (h .k) 1 leaf) →
       leavesFrom b₀ h first (listed f 0 n) ≡ leavesFrom c h (first + (i + 1)) (listed f (i + 1) (n - (i + 1)))

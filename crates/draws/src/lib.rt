@@ -66,7 +66,7 @@ fn new_keys(block: &[u32], h: Header, j: Job, count: u8) -> [u32; 8]
     }
 }
 
-// How many keys the new leaf has.
+// The tag of a simple insert's or delete's leaf. A damaged leaf without keys has none to lose.
 fn new_count(operation: u32, count: u8) -> u16
     ensures { λ r. ⌜ r ≡ newCount operation count ⌝ }
 {
@@ -84,7 +84,7 @@ fn draw_leaf(block: &mut [u32], h: Header, j: Job, count: u8)
     node::write_leaf(block, h, (h.nodesused as u32) + 1, tag, keys);
 }
 
-// The k−1 largest of the k keys.
+// "an internal node with the k−1 largest keys": ascending, they are all but the first.
 fn largest(keys: [u32; 8]) -> [u32; 8]
     ensures { λ r. ⌜ r ≡ largestOf keys ⌝ }
 {

@@ -10,7 +10,7 @@ use Rattle.history.specs.Shared.{Shared, Done, replaced, pruned, Pair}
 use Rattle.history.specs.Run.{Step}
 use Rattle.history.proofs.Route.{route-slot}
 use Rattle.history.proofs.Paths.{on-reach}
-use Rattle.history.proofs.Invariant.{Shape, Status, waits, over, asks, stands-marked, finished, dropped, Sound}
+use Rattle.history.proofs.Invariant.{Status, waits, over, asks, stands-marked, finished, dropped, Sound}
 use Rattle.history.proofs.Touch.{child-used}
 use Rattle.history.proofs.Lasting.{grown, Frozen, frozen, done-stays}
 
@@ -161,12 +161,6 @@ module _ {k : ℕ} {t : View} {p l : ℕ} where
         go : (t .child p (v .place) ≡ l) ⊎ (t .tag (t .child p (v .place)) ≡ 0) → ⊥
         go (inl e) = v .other-l (sym (v .other-at) ∙ e)
         go (inr e) = v .other-full (rw (v .other-at) at e)
-
--- what was noted lies above p
-pub noted-above : {k u : ℕ} {t : View} {p l i other : ℕ} → Shape k u t → In u p → t .tag p ≡ k → Noted k t p l i other → other ≢ 0
-    → p < other
-noted-above s h q (none-yet z f) d = absurd (d z)
-noted-above {p = p} s h q (noted j i a e full b) d = rw e at (s .above p j h q i)
 
 -- what was noted of a marked node stays
 pub noted-stays : {k : ℕ} {S S′ : Shared} {p l i other : ℕ} (q : ℕ) → 2 ≤ k → Sound k S → Step k S S′ → In (S .nodes) p

@@ -1,17 +1,17 @@
 -- All that a busy process knows, by its point: a start gives it, and no step of another takes it away.
-use mathlib.Core.Path.{_≡_, sym, _∙_, subst}
+use mathlib.Core.Path.{_≡_, _∙_}
 use mathlib.Core.Logic.{_≢_}
 use mathlib.Core.List.{List·Memᴰ}
 use Prim.Native.Nat.{ℕ, zero, suc, _*_, _-_, _≤_}
 use native.Mathlib.Omega.{arith}
 use Rattle.history.specs.View.{View, In, keys}
 use Rattle.history.specs.Shared.{Shared, Done, Failed}
-use Rattle.history.specs.Run.{Step, Run}
+use Rattle.history.specs.Run.{Step}
 use Rattle.history.proofs.Paths.{keys-same}
 use Rattle.history.proofs.Invariant.{Sound}
 use Rattle.history.proofs.Lasting.{grown}
-use Rattle.history.proofs.Descent.{Way, Read, Up, Above, at-root, AtLeaf, Counted, way-stays, read-stays, up-stays}
-use Rattle.history.proofs.Descent.{above-stays, leaf-stays, counted-stays, way-root}
+use Rattle.history.proofs.Descent.{Way, Read, Up, Above, AtLeaf, Counted, way-stays, read-stays, up-stays}
+use Rattle.history.proofs.Descent.{above-stays, leaf-stays, counted-stays}
 use Rattle.history.proofs.Helps.{Helps, Ends, helps-stays}
 use Rattle.history.proofs.Stacks.{Stacked, Goes-on, stack-stays, goes-on-stays}
 
@@ -105,17 +105,6 @@ KnowsAt k S i j M (suc (suc (suc (suc zero)))) = Replaces k S i j M
 KnowsAt k S i j M (suc (suc (suc (suc (suc zero))))) = Prunes k S i j M
 KnowsAt k S i j M (suc (suc (suc (suc (suc (suc n)))))) = Serves k (S j) M (suc (suc (suc (suc (suc (suc n))))))
 
-abbrev pub Knows : ℕ → (ℕ → Shared) → ℕ → ℕ → Mind → Type 0
-Knows k S i j M = KnowsAt k S i j M (M .point)
-
--- in and out of it, at a point that is known (`rw` would rewrite the point inside M too)
-module _ (k : ℕ) (S : ℕ → Shared) (i j : ℕ) (M : Mind) (n : ℕ) (e : M .point ≡ n) where
-  pub at-point : Knows k S i j M → KnowsAt k S i j M n
-  at-point w = subst (λ (m : ℕ). KnowsAt k S i j M m) e w
-
-  pub from-point : KnowsAt k S i j M n → Knows k S i j M
-  from-point w = subst (λ (m : ℕ). KnowsAt k S i j M m) (sym e) w
-
 module _ {k : ℕ} {s s′ : Shared} (hk : 2 ≤ k) (I : Sound k s) (c : Step k s s′) where
   pub row-stays : (n : ℕ) → In (s .nodes) n → keys (s′ .view) n ≡ keys (s .view) n
   row-stays n h = let g = grown hk I c in keys-same (s .view) (s′ .view) n (g .tag-same n h) (g .key-same n h)
@@ -175,14 +164,6 @@ module _ {k : ℕ} (S : ℕ → Shared) (i j : ℕ) (M : Mind) (hk : 2 ≤ k) (I
     on-top = w .on-top;
     own = owns-stays hk I c (w .own);
   }
-
-  pub knows-stays : Knows k S i j M → Knows k S i (suc j) M
-  knows-stays w = stays-at (M .point) w
-
--- an accepted start, or a restart, at moment j
-pub knows-start : {k : ℕ} {S : ℕ → Shared} {j : ℕ} {M : Mind} → 2 ≤ k → Run k S j → Sound k (S 0) → M .p ≡ 1 → M .gp ≡ 0
-    → Descends k S j j M
-knows-start {k} {S} {j} {M} hk R I₀ b d = record { way = rw b (way-root hk R I₀ (M .key)); from = at-root d b }
 
 -- help that ends at 8 or 14 with an empty stack has done the own record, if there is one: the answer is yes
 pub own-done : {k : ℕ} {s : Shared} {M : Mind} {v : ℕ} → Ends k s (M .helped) v → Owns s M → M .depth ≡ 0 → M .own ≢ 0

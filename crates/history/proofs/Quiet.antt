@@ -1,6 +1,6 @@
 -- Which records stand: a flag is set by its draw alone, and where none stands every node of the tree is clean.
 use mathlib.Core.Path.{_≡_, refl, sym, _∙_}
-use mathlib.Core.Logic.{_≢_, _⊎_, inl, inr}
+use mathlib.Core.Logic.{_≢_}
 use Prim.Native.Nat.{ℕ, _+_, _*_, _≤_}
 use native.Mathlib.Decide.{ℕ-discrete}
 use native.Mathlib.Omega.{arith}
@@ -12,7 +12,6 @@ use Rattle.history.specs.Run.{Step, changes, rests}
 use Rattle.history.proofs.Invariant.{Word, clean, replacing, pruning, marked, Status, waits, over, asks, stands-marked, finished}
 use Rattle.history.proofs.Invariant.{dropped, Sound}
 use Rattle.history.proofs.Touch.{reach-used, p-used, gp-used}
-use Rattle.history.proofs.Standing.{dropped-failed}
 use Rattle.history.proofs.Lasting.{grown}
 
 -- a word that was not written was there
@@ -58,19 +57,6 @@ module _ {k : ℕ} {S S′ : Shared} where
       go (stands-prune kd e) = stands-prune kd (back step (S .rec r .third) (4 * r + 2) (gp-used (I .inv) r h kd) (is-prune refl) e)
 
 module _ {k : ℕ} {S : Shared} (hk : 2 ≤ k) (I : Sound k S) where
-  -- a record that does not stand is done or has failed
-  pub resting : (r : ℕ) → In (S .records) r → ¬ Stands (S .view) (S .rec r) r
-      → Done k (S .view) (S .rec r) r ⊎ Failed (S .view) (S .rec r) r
-  resting r h n = go (I .inv .status r h)
-    where
-      go : Status k (S .view) (S .rec r) r → Done k (S .view) (S .rec r) r ⊎ Failed (S .view) (S .rec r) r
-      go (waits e v) = absurd (n (stands-replace e (v .flag)))
-      go (over e v) = inl (replaced e (v .no-child))
-      go (asks e v) = absurd (n (stands-prune e (v .held .flag)))
-      go (stands-marked e v) = absurd (n (stands-prune e (v .held .flag)))
-      go (finished e v) = inl (pruned e (v .mark) (v .no-child))
-      go (dropped e v) = inr (dropped-failed (omega arith) (I .inv) r h e v)
-
   -- a record that is done has not failed
   pub not-both : {r : ℕ} → Done k (S .view) (S .rec r) r → Failed (S .view) (S .rec r) r → ⊥
   not-both (replaced e a) f = omega (arith, f .prune)

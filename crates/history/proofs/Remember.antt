@@ -26,10 +26,6 @@ pub record Seen (t : View) (n c : ℕ) (Q : Type 0) : Type 0 where
   pub age : rank (4 * c) ≤ rank (t .pend n)
   pub holds : t .pend n ≡ 4 * c → Q
 
--- at the read, or at a later one if the word is still of that age
-pub seen-now : {t : View} {n c : ℕ} {Q : Type 0} → t .pend n ≡ 4 * c → Q → Seen t n c Q
-seen-now e q = record { age = rw e (omega arith); holds = λ z. q }
-
 pub seen-more : {t : View} {n c : ℕ} {Q Q′ : Type 0} → Seen t n c Q → (Q → Q′) → Seen t n c Q′
 seen-more s f = record { age = s .age; holds = λ e. f (s .holds e) }
 

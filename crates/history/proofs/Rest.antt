@@ -2,16 +2,14 @@
 use mathlib.Core.Path.{_≡_, refl}
 use mathlib.Core.Logic.{_≢_}
 use mathlib.Core.List.{List, [], _∷_, List·Memᴰ}
-use mathlib.Core.Bool.{Bool, true, false}
 use Prim.Native.Nat.{ℕ, zero, suc, _+_, _≤_, _<_}
 use native.Mathlib.Nat.{mul-zero}
 use native.Mathlib.Decide.{ℕ-discrete, decLe}
 use native.Mathlib.Omega.{arith}
-use lib.Dec.{ltb, ltb→lt}
 use Rattle.history.specs.View.{View, In, keys, Holds, Ordered}
 use Rattle.history.specs.Keys.{Rises, none}
 use Rattle.history.specs.Shared.{Shared}
-use Rattle.history.specs.Fresh.{Fresh, fresh-tables}
+use Rattle.history.specs.Fresh.{Fresh}
 use Rattle.history.proofs.Paths.{Uniq}
 use Rattle.history.proofs.Invariant.{counts, inner-count, Sorted, Shape, never, clean, Sound}
 use Rattle.history.proofs.Touch.{reach-used}
@@ -156,22 +154,3 @@ module _ {k : ℕ} {S : Shared} (hk : 2 ≤ k) (f : Fresh k S) where
     uniq = fresh-uniq;
     ordered = λ n x o q m. absurd (fresh-empty x (record { node = n; reached = o; leaf = q; has = m }));
   }
-
-pub fresh-is : (k : ℕ) → Fresh k (fresh-tables k)
-unfolding fresh-tables
-fresh-is k = record {
-  nodes = refl;
-  no-record = refl;
-  root-tag = refl;
-  dummy-tag = refl;
-  leaf-tag = λ n a b. high n a (ltb n 3) refl;
-  root-keys = λ i a b. refl;
-  dummy-keys = λ i a b. refl;
-  root-kids = λ j i. refl;
-  dummy-kids = λ j i. refl;
-  clean = λ n h. refl;
-}
-  where
-    high : (n : ℕ) → 3 ≤ n → (b : Bool) → ltb n 3 ≡ b → _≡_ {A = ℕ} (elim (ltb n 3) [ true ↦ k | false ↦ 0 ]) 0
-    high n a true e = absurd (omega (arith, ltb→lt n 3 (rw e tt)))
-    high n a false e = rw e

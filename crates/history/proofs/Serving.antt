@@ -2,7 +2,6 @@
 use mathlib.Core.Path.{_≡_, refl, sym, _∙_}
 use mathlib.Core.Logic.{_≢_, _⊎_, inl, inr}
 use Prim.Native.Nat.{ℕ, suc, _≤_, _<_}
-use native.Mathlib.Decide.{ℕ-discrete}
 use native.Mathlib.Omega.{arith}
 use Rattle.history.specs.View.{In}
 use Rattle.history.specs.Shared.{Shared, Failed}
@@ -65,19 +64,6 @@ module _ {s : Shared} {M M′ : Mind} (same-process : M′ .process ≡ M .proce
       bottom : ((M .depth ≡ 0) × (M′ .stack 0 ≡ M .helped)) ⊎ ((1 ≤ M .depth) × (M′ .stack 0 ≡ M .stack 0)) → M′ .stack 0 ≡ M′ .own
       bottom (inl w) = w .1 ∙ d (w .0) ∙ sym same-own
       bottom (inr w) = w .1 ∙ e (w .0) ∙ sym same-own
-
-  -- 9 pushes
-  pub owns-push : M′ .depth ≡ suc (M .depth) → ((i : ℕ) → i < M .depth → M′ .stack i ≡ M .stack i) → M′ .stack (M .depth) ≡ M .helped
-      → Owns s M → Owns s M′
-  owns-push e same new o = owns-with (λ z. absurd (omega arith)) (λ z. at (ℕ-discrete (M .depth) 0)) o
-    where
-      at : Dec (M .depth ≡ 0) → ((M .depth ≡ 0) × (M′ .stack 0 ≡ M .helped)) ⊎ ((1 ≤ M .depth) × (M′ .stack 0 ≡ M .stack 0))
-      at (yes z) = inl (z, rw z at new)
-      at (no z) = inr (omega arith, same 0 (omega arith))
-
-  -- help ends, or 10 pops, and a stack is left
-  pub owns-below : 1 ≤ M′ .depth → M′ .depth ≤ M .depth → M′ .stack 0 ≡ M .stack 0 → Owns s M → Owns s M′
-  owns-below l h e o = owns-with (λ z. absurd (omega arith)) (λ z. inr (omega arith, e)) o
 
   -- the same record is helped on, the stack as it was
   pub owns-same : M′ .depth ≡ M .depth → M′ .helped ≡ M .helped → ((i : ℕ) → i < M .depth → M′ .stack i ≡ M .stack i) → Owns s M → Owns s M′

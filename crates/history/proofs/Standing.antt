@@ -108,11 +108,3 @@ module _ {k u m : ℕ} {T : ℕ → Desc} {t : View} (hk : 1 ≤ k) (I : Inv k u
       go (stands-marked c v) = absurd (f .unmarked (v .mark))
       go (finished c v) = absurd (f .unmarked (v .mark))
       go (dropped c v) = v
-
-  -- and back, in plain words
-  pub dropped-failed : T r .kind ≡ 2 → Dropped t (T r) r → Failed t (T r) r
-  dropped-failed kd v = record {
-    prune = kd;
-    moved = λ e. (let a : rank (T r .expected) ≡ rank (t .pend (T r .p)) = cc in omega (arith, v .late));
-    unmarked = v .unmarked;
-  }

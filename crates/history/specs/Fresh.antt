@@ -1,8 +1,6 @@
 -- The fresh tree of Figure 6, by its words.
 use mathlib.Core.Path.{_≡_}
-use mathlib.Core.Bool.{true, false}
 use Prim.Native.Nat.{ℕ, _+_, _*_, _≤_, _<_}
-use lib.Dec.{ltb, eqb}
 use Rattle.history.specs.View.{In, infinity}
 use Rattle.history.specs.Shared.{Shared}
 
@@ -19,17 +17,3 @@ pub record Fresh (k : ℕ) (S : Shared) : Type 0 where
   pub root-kids : (j : ℕ) → In k j → S .view .child 1 j ≡ j + 1
   pub dummy-kids : (j : ℕ) → In k j → S .view .child 2 j ≡ k + 1 + j
   pub clean : (n : ℕ) → In (2 * k + 1) n → S .view .pend n ≡ 0
-
--- tables that are so
-unfoldable pub fresh-tables : ℕ → Shared
-fresh-tables k = record {
-  view = record {
-    tag = λ n. elim (ltb n 3) [ true ↦ k | false ↦ 0 ];
-    key = λ n i. infinity;
-    child = λ n j. elim (eqb n 1) [ true ↦ j + 1 | false ↦ k + 1 + j ];
-    pend = λ n. 0;
-  };
-  nodes = 2 * k + 1;
-  records = 0;
-  rec = λ r. record { kind = 0; l = 0; p = 0; third = 0; expected = 0; process = 0; operation = 0; key = 0 };
-}

@@ -7,7 +7,7 @@ use lib.Dec.{ltb}
 use borrow.Author.Tests.{ltb-false, lt-ltb, le-ltb}
 use lib.ListN.{length, getD, set, replicate}
 use lib.Seq.{set-getD}
-use Rattle.tables.specs.Choice.{pick, decide}
+use Rattle.tables.specs.Choice.{pick}
 use Rattle.tables.specs.Refusal.{refusal}
 use Rattle.tables.specs.Numbers.{kStored, numbersGood}
 use Rattle.tables.specs.Layout.{blockWords}

@@ -1,8 +1,8 @@
 -- "A refusal returns its number and changes nothing lent": each call is refused n exactly when reason n holds and none before it, and leaves block and row alone then; else one record changes, or the fresh tree stands.
 use Prim.Native.Nat.{ℕ, _-_, _≤_}
-use mathlib.Core.Path.{_≡_, refl, sym, ap, _∙_}
+use mathlib.Core.Path.{_≡_, refl, ap}
 use mathlib.Core.Bool.{true}
-use mathlib.Core.List.{List, [], _∷_, _++_}
+use mathlib.Core.List.{List, _++_}
 use mathlib.Core.Logic.{_↔_}
 use native.Mathlib.Omega.{arith}
 use borrow.Author.Tests.{ltb-false, not-false}
@@ -24,6 +24,7 @@ use Rattle.points.specs.Rows.{rowOf}
 use Rattle.points.specs.Step.{rowReasons, startRest, startReasons, stepRest, stepReasons}
 use Rattle.points.specs.declared.start.StartAnswer.the-variants as starts
 use Rattle.points.proofs.Counted.{never-refused}
+use Rattle.points.proofs.Refusals.{one-step, one-start, not-accepted}
 use Rattle.index.specs.Calls.{recordOf, withRecord, makeReasons, MakeOut, makeOut, makeCall, StartOut, startOut, startCall, StepOut, stepOut, stepBy, stepCall}
 
 one-made : (d e : Refusal) → made.Refused d ≡ made.Refused e → d ≡ e
@@ -60,12 +61,6 @@ module _ (row z : List Process) (n : ℕ) (q : Process) (put : z ≡ withRecord 
   is-put : 1 ≤ n → n ≤ length row → recordOf z n ≡ q
   is-put i j = rw put (getD-set-same row (n - 1) q idle (omega arith))
 
-one-start : (d e : Refusal) → starts.Refused d ≡ starts.Refused e → d ≡ e
-one-start d e f = cc
-
-not-accepted : (e : Refusal) → starts.Accepted ≡ starts.Refused e → ⊥
-not-accepted e f = let z : _≡_ {A = ℕ} 0 1 = cc in omega arith
-
 module _ (b : List ℕ) (row : List Process) (n operation key : ℕ) where
   abbrev causes : List Reason
   causes = startReasons b (length row) n (recordOf row n) operation key
@@ -92,9 +87,6 @@ module _ (b : List ℕ) (row : List Process) (n operation key : ℕ) where
 
     pub start-others : (m : ℕ) → 1 ≤ m → (m ≡ n → ⊥) → recordOf (startCall b row n operation key .row) m ≡ recordOf row m
     start-others m i other = others-stay row _ n (startedAs operation key) (ap (λ (o : StartOut). o .row) start-accepted) m i (its-place .0) other
-
-one-step : (d e : Refusal) → steps.Refused d ≡ steps.Refused e → d ≡ e
-one-step d e f = cc
 
 module _ (b : List ℕ) (row : List Process) (n : ℕ) where
   abbrev reasons : List Reason

@@ -64,7 +64,7 @@ fn place_of(process: u32) -> usize
     words::prev(process) as usize
 }
 
-// One step of a process.
+// "Each accepted step does the one row of its point"; the record goes back to its place whatever the answer.
 pub fn step(block: &mut [u32], row: &mut [Process], process: u32) -> StepAnswer
     ensures { λ r. ⌜ stepOut r (now (block .exit)) (now (row .exit)) ≡ stepCall (now (block .entry)) (now (row .entry)) process ⌝ }
 {

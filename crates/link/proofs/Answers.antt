@@ -15,6 +15,7 @@ use Rattle.process.specs.declared.StepAnswer.the-variants.{GoesOn, Ended, Refus
 use Rattle.process.specs.declared.Stepped.{Stepped}
 use Rattle.process.specs.Answer.{stepsUp}
 use Rattle.tables.specs.Refusal.{refusal}
+use Rattle.tables.proofs.Picks.{both-is}
 use Rattle.points.specs.Rows.{rowOf}
 use Rattle.index.specs.Calls.{StepOut}
 use Rattle.history.specs.View.{In, Holds}
@@ -25,12 +26,11 @@ use Rattle.history.proofs.Swapping.{SwapBetween, swapped-done, failed-never, sw
 use Rattle.link.specs.Events.{Event, State, taken, stepIn, eventAt, stateAt, blockAt, headerAt, starts, isAnswered, steppedBy, stepsAt, capped, sinceAt}
 use Rattle.link.specs.Swaps.{ChildSwap}
 use Rattle.link.specs.Operations.{Answered}
-use Rattle.link.proofs.Checks.{both-is}
-use Rattle.link.proofs.Moments.{tables, Busy, Why, found, missing, there, not-there, no-room, did}
+use Rattle.link.proofs.Moments.{tables, Why, found, missing, there, not-there, no-room, did}
 use Rattle.link.proofs.Stepping.{turn, step-sound}
 use Rattle.link.proofs.Calls as calls
 use Rattle.link.proofs.Calls.{stepRefusedIn}
-use Rattle.link.proofs.Reached.{Doing, idles, works}
+use Rattle.link.proofs.Reached.{at-work}
 use Rattle.link.proofs.Clauses.{Reached, good, k-at, hk, run, sound, sound₀, stepped-says, swap-at, swap-event, swaps-once}
 use Rattle.link.proofs.Story.{Story, story, capped-up, steps-next}
 
@@ -88,10 +88,6 @@ module _ {s : State} {es : List Event} (reached : Reached s es) where
             no : Refused (refusal r) ≡ Ended a c → ⊥
             no x = let z : _≡_ {A = ℕ} 0 1 = cc in omega arith
 
-        on : q .operation ≢ 0 → Doing s es m n → Busy (headerAt s es) (blockAt s es) i m n q
-        on d (idles e) = absurd (d e)
-        on d (works y) = y
-
         says : (t : Stepped) → stepIn (W m) n .answer ≡ t .answer → In (headerAt s es m .processes) n → q .operation ≢ 0 → i ≤ m
             → (t .answer ≡ GoesOn) ⊎ ((x : Answer) × (t .answer ≡ Ended x (stepsUp (q .steps))) × Why (headerAt s es m .k) S i m n q x) → Told s es k m n a c
         says t e u d l (inl g) = absurd (no (sym g ∙ sym e ∙ answered .answer))
@@ -112,7 +108,7 @@ module _ {s : State} {es : List Event} (reached : Reached s es) where
         go (calls.unknown d e) = absurd (refused 4 e)
         go (calls.rests u d e) = absurd (refused 8 e)
         go (calls.works u d f) =
-            let y = on d (good reached m .each n u) in
+            let y = at-work d (good reached m .each n u) in
             says (rowOf (blockAt s es m) (headerAt s es m) n q .stepped) (ap (λ (o : StepOut). o .answer) (f (step-sound (good reached m .now) q y))) u d (y .since)
             (stepped-says (turn (good reached m .now) q y .follows))
 

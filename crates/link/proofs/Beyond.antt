@@ -31,7 +31,7 @@ use Rattle.points.specs.Step.{stepReasons}
 use Rattle.points.proofs.Accepted.{Accepted, Known, accepted-known}
 use Rattle.points.proofs.Counted.{neededAt}
 use Rattle.points.proofs.Leaves.{Leaves, by-touch, by-stack, by-replace, by-prune, by-none, placeOf, ownWord}
-use Rattle.points.proofs.Touches.{step-leaves, touch-shared}
+use Rattle.points.proofs.Touches.{needs-4, step-leaves, touch-shared}
 use Rattle.index.specs.Calls.{recordOf, StepOut, stepOut, stepBy, stepCall}
 
 -- word i stands behind the block of h
@@ -110,9 +110,6 @@ module _ (b : List ℕ) (rows n : ℕ) (q : Process) (a : Accepted b rows n q) w
           let s = touch-shared b rows n q a in
           record { from-one = s .from-one; to-last = omega (arith, s .to-used, known .limited); within = omega (arith, s .to-pending) }
 
-      needs : q .point ≡ 4 → neededAt b h q ≡ neededNodes h (q .operation) (tagWord b h (q .l))
-      needs p = rw p refl
-
       go : Leaves b h n q (rowOf b h n q) → getD (rowOf b h n q .block) i 0 ≡ getD b i 0
       go (by-touch g e) = ap (λ (c : List ℕ). getD c i 0) e ∙ touched-behind h i behind b touch inside
       go (by-stack v g t l e) =
@@ -123,7 +120,7 @@ module _ (b : List ℕ) (rows n : ℕ) (q : Process) (a : Accepted b rows n q) w
           let room : Room h (neededAt b h q) = room-is h (neededAt b h q) (both-2 _ _ t) in
           ap (λ (c : List ℕ). getD c i 0) e
           ∙ committed-behind h i behind (nodesDrawn b h (jobOf n q) (tagWord b h (q .l))) replaceKind (newNode h) 0 (neededNodes h (q .operation) (tagWord b h (q .l))) (jobOf n q) (q .p) (room .record-left) (u .from-one) (omega (arith, u .to-used, known .limited))
-          ∙ nodes-behind h i behind b (jobOf n q) (tagWord b h (q .l)) (omega (arith, room .nodes-left, needs p))
+          ∙ nodes-behind h i behind b (jobOf n q) (tagWord b h (q .l)) (omega (arith, room .nodes-left, needs-4 b h q p))
       go (by-prune p t u g e) =
           let room : Room h (neededAt b h q) = room-is h (neededAt b h q) (both-2 _ _ t) in
           ap (λ (c : List ℕ). getD c i 0) e

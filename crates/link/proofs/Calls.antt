@@ -15,7 +15,7 @@ use Rattle.tables.specs.Layout.{blockWords}
 use Rattle.tables.specs.Refusal.{numberOf, refusal}
 use Rattle.tables.specs.Header.{headerOf, headerGood}
 use Rattle.tables.specs.declared.header.Header.{Header}
-use Rattle.tables.proofs.Picks.{within-low, within-high}
+use Rattle.tables.proofs.Picks.{within-low, within-high, both-is}
 use Rattle.tables.proofs.Limits.{Limits, limits}
 use Rattle.process.specs.declared.Process.{Process}
 use Rattle.process.specs.Process.{startedAs}
@@ -27,7 +27,7 @@ use Rattle.index.specs.Calls.{withRecord, StartOut, startOut, startCall, StepOu
 use Rattle.history.specs.View.{In}
 use Rattle.link.specs.Events.{State, taken, startIn, stepIn}
 use Rattle.link.proofs.Writes.{Fit}
-use Rattle.link.proofs.Checks.{both-is, within-is}
+use Rattle.link.proofs.Checks.{within-is}
 
 pub limits-good : {h : Header} → Limits h → headerGood h ≡ true
 unfolding headerGood numbersGood

@@ -5,9 +5,7 @@ use mathlib.Core.Logic.{_≢_, _⊎_, inl, inr}
 use mathlib.Core.Bool.{Bool}
 use mathlib.Core.List.{List}
 use native.Mathlib.Omega.{arith}
-use lib.Count.{ones}
 use Rattle.tables.specs.Layout.{recordWord, processField}
-use Rattle.tables.specs.Pending.{wordOf}
 use Rattle.tables.specs.declared.header.Header.{Header}
 use Rattle.process.specs.declared.Process.{Process}
 use Rattle.process.specs.declared.Stepped.{Stepped}
@@ -22,7 +20,7 @@ use Rattle.history.proofs.Runs.{run-more}
 use Rattle.history.proofs.Knows.{Mind, KnowsAt, Serves, stays-at}
 use Rattle.link.specs.Tables.{tablesOf, stackOf}
 use Rattle.link.proofs.Writes.{Fit}
-use Rattle.link.proofs.Minds.{mindOf, HeldBy, CountersBy, held-more}
+use Rattle.link.proofs.Minds.{mindWith, mindOf, HeldBy, CountersBy, held-more}
 use Rattle.link.proofs.Moments.{tables, Now, Busy, Follows, already, afterwards, answers, Turn, k-low, now-sound, same-self}
 
 -- what a turn is for all processes
@@ -67,28 +65,7 @@ module _ {hs : ℕ → Header} {bs : ℕ → List ℕ} {j : ℕ} {h′ : Header}
       subst (λ (c : List ℕ). Follows hs bs i j n (hs (suc j)) c q s) (sym eb) (subst (λ (g : Header). Follows hs bs i j n g b′ q s) (sym eh) f)
 
 -- the mind of a process whose stack is as it was
-mindWith : (ℕ → ℕ) → ℕ → Process → Mind
-mindWith f n q = record {
-  process = n;
-  operation = q .operation;
-  key = q .key;
-  point = q .point;
-  gp = q .gp;
-  p = q .p;
-  l = q .l;
-  pseen = wordOf (q .pseen);
-  gseen = wordOf (q .gseen);
-  index = q .index;
-  ones = ones (q .mask);
-  helped = q .helped;
-  other = q .other;
-  depth = q .depth;
-  stack = f;
-  own = q .own;
-}
-
 mind-same : (h h′ : Header) (b b′ : List ℕ) (n : ℕ) (q : Process) → stackOf h′ b′ n ≡ stackOf h b n → mindOf h′ b′ n q ≡ mindOf h b n q
-unfolding mindWith
 mind-same h h′ b b′ n q e = ap (λ (f : ℕ → ℕ). mindWith f n q) e
 
 knows-serves : {k : ℕ} (S : ℕ → Shared) (i j : ℕ) (M : Mind) (m : ℕ) → 6 ≤ m → Serves k (S j) M m → KnowsAt k S i j M m

@@ -1,12 +1,13 @@
 -- The damage checks hold of what the history says is there: nodes, pendings, records, what is below a node.
 use Prim.Native.Nat.{ℕ, _+_, _*_, _-_, _≤_, _<_}
 use mathlib.Core.Path.{_≡_, refl, ap, _∙_}
-use mathlib.Core.Bool.{Bool, true}
+use mathlib.Core.Bool.{true}
 use mathlib.Core.List.{List}
 use native.Mathlib.Omega.{arith}
 use lib.Dec.{leb}
 use borrow.Author.Tests.{lt-ltb, le-ltb, le-leb, eq-eqb}
 use Rattle.tables.specs.Choice.{pick, both, within}
+use Rattle.tables.specs.Numbers as numbers
 use Rattle.tables.specs.Layout.{tagWord, recordWord, lField, pField, thirdField, expectedField, processField, operationField, keyField}
 use Rattle.tables.specs.Pending.{wordOf, pendingOf, recordOfKind, pendingGood}
 use Rattle.tables.specs.Node.{kinOfTag, kinOf, belowOf, isNode, isInternal, isLeaf}
@@ -16,17 +17,15 @@ use Rattle.tables.specs.declared.node.Child.the-variants.{Node}
 use Rattle.tables.specs.declared.pending.Pending.{Pending}
 use Rattle.tables.specs.declared.pending.Pending.the-variants.{Clean, Replace, Prune, Mark}
 use Rattle.tables.proofs.OneToOne.{pending-word}
+use Rattle.tables.proofs.Picks.{both-is}
 use Rattle.damage.specs.Helped.{ownerGood, expectedGood, recordGood}
 use Rattle.history.specs.View.{In, infinity}
-use Rattle.history.specs.Shared.{Desc, Shared}
-use Rattle.history.proofs.Invariant.{Word, clean, replacing, pruning, marked, Origin, never, replace-over, prune-over, sprout-born, Made, put, out, sprouted, Sound}
+use Rattle.history.specs.Shared.{Shared}
+use Rattle.history.proofs.Invariant.{Word, clean, replacing, pruning, marked, Made, put, out, sprouted, Sound}
 use Rattle.history.proofs.Touch.{p-used, gp-used, new-used}
+use Rattle.history.proofs.Static.{origin-used}
 use Rattle.link.specs.Tables.{tablesOf}
 use Rattle.link.proofs.Writes.{Fit}
-
-pub both-is : {a c : Bool} → a ≡ true → c ≡ true → both a c ≡ true
-unfolding both
-both-is {a} {c} e f = rw (e, f) refl
 
 pub within-is : (lo x hi : ℕ) → lo ≤ x → x ≤ hi → within lo x hi ≡ true
 within-is lo x hi a c = both-is (le-leb lo x a) (le-leb x hi c)
@@ -52,12 +51,6 @@ prune-is w c e = pending-is (Prune c) w e
 
 pub mark-is : (w c : ℕ) → w ≡ 4 * c + 3 → pendingOf w ≡ Mark c
 mark-is w c e = pending-is (Mark c) w e
-
-origin-used : {m : ℕ} {T : ℕ → Desc} {n c : ℕ} → Origin m T n c → c ≤ m
-origin-used (never e) = omega arith
-origin-used (replace-over i a d) = i .high
-origin-used (prune-over i a d) = i .high
-origin-used (sprout-born i a d) = i .high
 
 pub word-names : (s : Shared) {n w : ℕ} → Word (s .records) (s .rec) n w → Names s (pendingOf w)
 word-names s {n} {w} (clean c e o) = rw (clean-is w c e) (origin-used o)
@@ -122,7 +115,7 @@ module _ {b : List ℕ} {h : Header} (fit : Fit h b) (I : Sound (h .k) (tablesOf
   unfolding infinity
   owner-good o =
       both-is (within-is 2 (recordWord b h r operationField) 3 (o .0) (o .1))
-      (both-is (lt-ltb (recordWord b h r keyField) 4294967295 (I .inv .good r i .finite))
+      (both-is (lt-ltb (recordWord b h r keyField) numbers.infinity (I .inv .good r i .finite))
       (within-is 1 (recordWord b h r processField) (h .processes) (owner .low) (owner .high)))
 
   expected-good : (c : ℕ) → recordWord b h r expectedField ≡ 4 * c → c ≤ h .recordsused → expectedGood b h r ≡ true

@@ -15,6 +15,7 @@ use Rattle.process.specs.declared.Stepped.{Stepped}
 use Rattle.process.specs.Answer.{stepsUp}
 use Rattle.points.specs.Rows.{rowOf}
 use Rattle.points.specs.declared.start.StartAnswer.the-variants as start-answers
+use Rattle.points.proofs.Refusals.{one-step}
 use Rattle.index.specs.Calls.{StartOut, StepOut}
 use Rattle.history.specs.View.{In, route, keys, Reach, Below}
 use Rattle.history.specs.Shared.{Shared}
@@ -29,10 +30,10 @@ use Rattle.history.proofs.Runs.{sound-at, grown-at}
 use Rattle.history.proofs.Swapping.{SwapBetween, one-swap}
 use Rattle.link.specs.Events.{Event, step, State, taken, startIn, stepIn, eventAt, stateAt, blockAt, headerAt, Proper, sinceAt}
 use Rattle.link.specs.Swaps.{ChildSwap}
-use Rattle.link.proofs.Moments.{tables, Busy, Why, Follows, already, afterwards, answers, k-low}
+use Rattle.link.proofs.Moments.{tables, Why, Follows, already, afterwards, answers, k-low}
 use Rattle.link.proofs.Stepping.{turn, step-sound}
 use Rattle.link.proofs.Calls as calls
-use Rattle.link.proofs.Reached.{Good, Doing, idles, works, Kind, no-swap, swap-of, move, good-always}
+use Rattle.link.proofs.Reached.{Good, at-work, Kind, no-swap, swap-of, move, good-always}
 use Rattle.link.proofs.Beginning.{Rested, good-rest}
 
 -- the step from moment m, with the k of the whole run
@@ -109,13 +110,6 @@ module _ {s : State} {es : List Event} (reached : Reached s es) where
   pub step-refused : (m n : ℕ) (e : Refusal) → stepIn (W m) n .answer ≡ Refused e → (e ≡ NoSuchProcess) ⊎ (e ≡ Idle)
   step-refused m n e z = go (calls.step-goes (W m) (good m .now .fit) (good m .rows) n)
     where
-      same : (d f : Refusal) → Refused d ≡ Refused f → f ≡ d
-      same d f x = cc
-
-      busy : taken (W m) n .operation ≢ 0 → Doing s es m n → Busy hs bs (sinceAt s es n m) m n (taken (W m) n)
-      busy d (idles x) = absurd (d x)
-      busy d (works y) = y
-
       says : (t : Stepped) → stepIn (W m) n .answer ≡ t .answer → (t .answer ≡ GoesOn) ⊎ ((a : Answer) × (t .answer ≡ Ended a (stepsUp (taken (W m) n .steps))) × Why (hs m .k) S (sinceAt s es n m) m n (taken (W m) n) a) → ⊥
       says t x (inl g) = let v : GoesOn ≡ Refused e = sym g ∙ sym x ∙ z in let w : _≡_ {A = ℕ} 0 1 = cc in omega arith
       says t x (inr g) =
@@ -123,10 +117,10 @@ module _ {s : State} {es : List Event} (reached : Reached s es) where
           let w : _≡_ {A = ℕ} 0 1 = cc in omega arith
 
       go : calls.Step (W m) (good m .now .fit) (good m .rows) n → (e ≡ NoSuchProcess) ⊎ (e ≡ Idle)
-      go (calls.unknown d x) = inl (same NoSuchProcess e (sym (ap (λ (o : StepOut). o .answer) x) ∙ z))
-      go (calls.rests u d x) = inr (same Idle e (sym (ap (λ (o : StepOut). o .answer) x) ∙ z))
+      go (calls.unknown d x) = inl (sym (one-step NoSuchProcess e (sym (ap (λ (o : StepOut). o .answer) x) ∙ z)))
+      go (calls.rests u d x) = inr (sym (one-step Idle e (sym (ap (λ (o : StepOut). o .answer) x) ∙ z)))
       go (calls.works u d f) =
-          let y = busy d (good m .each n u) in
+          let y = at-work d (good m .each n u) in
           absurd (says (rowOf (bs m) (hs m) n (taken (W m) n) .stepped) (ap (λ (o : StepOut). o .answer) (f (step-sound (good m .now) (taken (W m) n) y)))
           (stepped-says (turn (good m .now) (taken (W m) n) y .follows)))
 

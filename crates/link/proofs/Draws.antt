@@ -10,6 +10,7 @@ use Rattle.tables.specs.Header.{headerOf, headerFrom}
 use Rattle.tables.specs.Place.{Place, inHeader, inNode, inRecord, inStack, placeAt, Inside}
 use Rattle.tables.specs.Pending.{replaceKind, pruneKind}
 use Rattle.tables.specs.declared.header.Header.{Header}
+use Rattle.tables.proofs.Places.{header-node, header-record, header-stack, node-record, node-stack, record-stack, node-word, record-row}
 use Rattle.draws.specs.declared.Job.{Job}
 use Rattle.draws.specs.Draw.{newNode, newRecord, neededNodes, nodesDrawn, recordImage, committed, replaceDrawn, pruneDrawn}
 use Rattle.draws.proofs.After.{Room, committed-length, committed-other, committed-record, committed-flag, committed-header, nodes-length, replace-other, replace-length, replace-header}
@@ -18,7 +19,7 @@ use Rattle.history.specs.Shared.{Desc}
 use Rattle.history.specs.Change.{SwapPend, NewRecord, replace-words, prune-words}
 use Rattle.history.proofs.Within.{within-same}
 use Rattle.link.specs.Tables.{viewOf, descOf, tablesOf, stackOf}
-use Rattle.link.proofs.Writes.{Fit, stack-same}
+use Rattle.link.proofs.Writes.{Fit, in-node, in-record, stack-same}
 
 -- the header after a draw of so many nodes
 abbrev pub drawnHeader : Header → ℕ → Header
@@ -34,37 +35,7 @@ pub record Drew (h : Header) (b b′ : List ℕ) (flagged needed kind : ℕ) (im
   pub flag : pendingWord b′ h flagged ≡ 4 * newRecord h + kind
   pub new : (f : ℕ) → f < recordWords → recordWord b′ h (newRecord h) f ≡ getD image f 0
 
-header-node : (i n o : ℕ) → inHeader i ≡ inNode n o → ⊥
-header-node i n o e = let z : _≡_ {A = ℕ} 0 1 = cc in omega arith
-
-header-record : (i r f : ℕ) → inHeader i ≡ inRecord r f → ⊥
-header-record i r f e = let z : _≡_ {A = ℕ} 0 1 = cc in omega arith
-
-header-stack : (i n d : ℕ) → inHeader i ≡ inStack n d → ⊥
-header-stack i n d e = let z : _≡_ {A = ℕ} 0 1 = cc in omega arith
-
-node-record : (n o r f : ℕ) → inNode n o ≡ inRecord r f → ⊥
-node-record n o r f e = let z : _≡_ {A = ℕ} 0 1 = cc in omega arith
-
-node-stack : (n o q d : ℕ) → inNode n o ≡ inStack q d → ⊥
-node-stack n o q d e = let z : _≡_ {A = ℕ} 0 1 = cc in omega arith
-
-record-stack : (r f q d : ℕ) → inRecord r f ≡ inStack q d → ⊥
-record-stack r f q d e = let z : _≡_ {A = ℕ} 0 1 = cc in omega arith
-
-node-word : (n o m u : ℕ) → inNode n o ≡ inNode m u → (m ≡ n) × (u ≡ o)
-node-word n o m u e = (cc, cc)
-
-record-one : (n o m u : ℕ) → inRecord n o ≡ inRecord m u → n ≡ m
-record-one n o m u e = cc
-
 module _ {h : Header} {b : List ℕ} (fit : Fit h b) where
-  in-node : (n o : ℕ) → In (h .nodesused) n → o < nodeWords (h .k) → Inside h (inNode n o)
-  in-node n o i l = record { from-one = i .low; to-last = omega (arith, i .high, fit .limits .used-high); within = l }
-
-  in-record : (r f : ℕ) → In (h .recordsused) r → f < recordWords → Inside h (inRecord r f)
-  in-record r f i l = record { from-one = i .low; to-last = omega (arith, i .high, fit .limits .drawn-high); within = l }
-
   -- 5
   pub drew-prune : (j : Job) (gp expected : ℕ) → Room h 0 → In (h .nodesused) gp
       → Drew h b (pruneDrawn b h j gp expected) gp 0 2 (recordImage 2 gp expected j)
@@ -72,8 +43,8 @@ module _ {h : Header} {b : List ℕ} (fit : Fit h b) where
   drew-prune j gp expected room i = record {
     header = committed-header b h pruneKind gp expected 0 j gp left (i .low) top (fit .long) (fit .header);
     size = committed-length b h pruneKind gp expected 0 j gp;
-    node = λ n o u l d. other (inNode n o) (in-node n o u l) (header-node 3 n o) (header-node 5 n o) (λ e. d (node-word gp _ n o e)) (λ f e. node-record n o _ f (sym e));
-    rec = λ r f u l. other (inRecord r f) (in-record r f u l) (header-record 3 r f) (header-record 5 r f) (node-record gp _ r f) (λ g e. omega (arith, record-one _ g r f e, u .high));
+    node = λ n o u l d. other (inNode n o) (in-node fit n o u l) (header-node 3 n o) (header-node 5 n o) (λ e. d (node-word gp _ n o e)) (λ f e. node-record n o _ f (sym e));
+    rec = λ r f u l. other (inRecord r f) (in-record fit r f u l) (header-record 3 r f) (header-record 5 r f) (node-record gp _ r f) (λ g e. omega (arith, record-row _ g r f e, u .high));
     stack = λ n d u. other (inStack n d) u (header-stack 3 n d) (header-stack 5 n d) (node-stack gp _ n d) (λ f. record-stack _ f n d);
     flag = committed-flag b h pruneKind gp expected 0 j gp left (i .low) top (fit .long);
     new = committed-record b h pruneKind gp expected 0 j gp left (i .low) top (fit .long);
@@ -99,9 +70,9 @@ module _ {h : Header} {b : List ℕ} (fit : Fit h b) where
     drew-replace = record {
       header = replace-header b h j count room (i .low) (i .high) (fit .long) (fit .header);
       size = replace-length b h j count room (i .low) (i .high);
-      node = λ n o u l d. other (inNode n o) (in-node n o u l) (header-node 3 n o) (header-node 5 n o) (λ e. d (node-word (j .p) _ n o e)) (λ f e. node-record n o _ f (sym e))
+      node = λ n o u l d. other (inNode n o) (in-node fit n o u l) (header-node 3 n o) (header-node 5 n o) (λ e. d (node-word (j .p) _ n o e)) (λ f e. node-record n o _ f (sym e))
           (λ m a p q e. omega (arith, node-word m a n o e .0, u .high));
-      rec = λ r f u l. other (inRecord r f) (in-record r f u l) (header-record 3 r f) (header-record 5 r f) (node-record (j .p) _ r f) (λ g e. omega (arith, record-one _ g r f e, u .high))
+      rec = λ r f u l. other (inRecord r f) (in-record fit r f u l) (header-record 3 r f) (header-record 5 r f) (node-record (j .p) _ r f) (λ g e. omega (arith, record-row _ g r f e, u .high))
           (λ m a p q. node-record m a r f);
       stack = λ n d u. other (inStack n d) u (header-stack 3 n d) (header-stack 5 n d) (node-stack (j .p) _ n d) (λ f. record-stack _ f n d) (λ m a p q. node-stack m a n d);
       flag = flagged;

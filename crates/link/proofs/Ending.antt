@@ -15,6 +15,7 @@ use Rattle.tables.specs.Place.{inNode, inStack, Inside}
 use Rattle.tables.specs.Pending.{pendingOf, recordOfKind}
 use Rattle.tables.specs.declared.header.Header.{Header}
 use Rattle.tables.proofs.Places.{read-same, read-other}
+use Rattle.tables.proofs.Picks.{both-is}
 use Rattle.process.specs.declared.Process.{Process}
 use Rattle.process.specs.Process.{withDepth, restartedOf}
 use Rattle.process.specs.Answer.{answer, goingOn, endingOf}
@@ -32,7 +33,7 @@ use Rattle.history.proofs.Helps.{Ends}
 use Rattle.history.proofs.Knows.{Mind, Owns, none-yet, owns, Serves, own-done}
 use Rattle.link.specs.Tables.{viewOf, tablesOf, stackOf}
 use Rattle.link.proofs.Writes.{Writes, writes-none, writes-node, writes-stack, writes-tables, pend-swap, tables-same, stack-same, stack-over-node, stack-over-stack}
-use Rattle.link.proofs.Checks.{both-is, word-names, pending-good, kind-good}
+use Rattle.link.proofs.Checks.{word-names, pending-good, kind-good}
 use Rattle.link.proofs.Minds.{mindOf, stack-room}
 use Rattle.link.proofs.Moments.{tables, Now, Busy, did, Follows, answers, nobody, Turn, k-low, now-sound, quiet, restarts}
 use Rattle.link.proofs.Seeing.{counters-help, Loose, free, below as at-bottom, owns-loose, to-top}

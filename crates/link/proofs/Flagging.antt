@@ -16,7 +16,7 @@ use Rattle.tables.specs.declared.header.Header.{Header}
 use Rattle.tables.specs.declared.node.Kin.{Kin}
 use Rattle.tables.specs.declared.pending.Pending.{Pending}
 use Rattle.tables.specs.declared.pending.Pending.the-variants.{Clean, Replace, Prune, Mark}
-use Rattle.tables.proofs.Picks.{both-1, both-2}
+use Rattle.tables.proofs.Picks.{both-1, both-2, both-is}
 use Rattle.process.specs.declared.Process.{Process}
 use Rattle.process.specs.declared.Stepped.{Stepped}
 use Rattle.process.specs.Process.{withOwn, toSix, toNine}
@@ -41,25 +41,11 @@ use Rattle.link.specs.Tables.{viewOf, tablesOf}
 use Rattle.link.proofs.Keyed.{keys-are, mem-holds, not-holds, sorted-rises}
 use Rattle.link.proofs.Draws.{drawnHeader, Drew, drew-prune, drew-replace, drew-fit, drew-swap, drew-stack, prune-record, replace-record}
 use Rattle.link.proofs.Born.{needs-one, needs-many, born-put, born-take, born-sprout}
-use Rattle.link.proofs.Checks.{both-is, word-names, kin-leaf, node-good, pending-good}
-use Rattle.link.proofs.Minds.{mindOf, Held, held-more}
+use Rattle.link.proofs.Checks.{word-names, kin-leaf, node-good, pending-good}
+use Rattle.link.proofs.Minds.{mindOf, held-more}
 use Rattle.link.proofs.Moments.{tables, Now, Busy, no-room, Follows, afterwards, answers, nobody, Turn, k-low, now-sound, quiet}
-use Rattle.link.proofs.Seeing.{counters-help}
+use Rattle.link.proofs.Seeing.{counters-help, held-records}
 use Rattle.link.proofs.Searching.{known, helps-word}
-
-held-own : {k : ℕ} {s : Shared} {gp p l : ℕ} {pseen gseen : Pending} {helped other own : ℕ} (r : ℕ) → r ≤ s .records → Held k s gp p l pseen gseen helped other own
-    → Held k s gp p l pseen gseen r other r
-held-own r e w = record {
-  p-used = w .p-used;
-  p-inner = w .p-inner;
-  gp-good = w .gp-good;
-  l-good = w .l-good;
-  other-good = w .other-good;
-  pseen-good = w .pseen-good;
-  gseen-good = w .gseen-good;
-  helped-good = e;
-  own-good = e;
-}
 
 -- with an empty stack there is no top to be wrong
 pub help-good-empty : (b : List ℕ) (h : Header) (depth top : ℕ) → depth ≡ 0 → (v : Pending) → helpGood b h depth top v ≡ true
@@ -202,7 +188,7 @@ module _ {hs : ℕ → Header} {bs : ℕ → List ℕ} {i j n : ℕ} (now : Now 
         drawn-by = λ m a c. (let z : m ≡ newRecord h = omega arith in (subst (λ (x : ℕ). recordWord b′ h x processField ≡ n) (sym z) (drew .new processField (omega arith)), sym z, subst (λ (x : ℕ). recordWord b′ h x operationField ≡ q .operation) (sym z) (drew .new operationField (omega arith)), subst (λ (x : ℕ). recordWord b′ h x keyField ≡ q .key) (sym z) (drew .new keyField (omega arith))));
         follows =
             afterwards (toSix (withOwn q (newRecord h)) (newRecord h)) refl (λ d z. absurd (z (y .counters .early-own (omega arith))))
-            (held-own (newRecord h) (omega arith) (held-more (grown (k-low now) I step) (y .held)))
+            (held-records (newRecord h) (newRecord h) (omega arith) (omega arith) (held-more (grown (k-low now) I step) (y .held)))
             (counters-help 6 1 (q .depth) (newRecord h) (y .counters) not-find (omega arith) (omega arith) (omega (arith, k-low now)) (λ z. omega arith) (λ z x. absurd (omega arith)) (λ z. absurd (omega arith)))
             (omega arith)
             (own-replace (k-low now) (newRecord h) (omega arith) refl refl (y .counters .early-depth (omega arith)) (replace-record (now .fit) job count room p-used .words) refl);
@@ -277,7 +263,7 @@ module _ {hs : ℕ → Header} {bs : ℕ → List ℕ} {i j n : ℕ} (now : Now 
         drawn-by = λ m a c. (let z : m ≡ newRecord h = omega arith in (subst (λ (x : ℕ). recordWord b₅ h x processField ≡ n) (sym z) (drew₅ .new processField (omega arith)), sym z, subst (λ (x : ℕ). recordWord b₅ h x operationField ≡ q .operation) (sym z) (drew₅ .new operationField (omega arith)), subst (λ (x : ℕ). recordWord b₅ h x keyField ≡ q .key) (sym z) (drew₅ .new keyField (omega arith))));
         follows =
             afterwards (toNine (withOwn q (newRecord h)) (newRecord h)) refl (λ d z. absurd (z (y .counters .early-own (omega arith))))
-            (held-own (newRecord h) (omega arith) (held-more (grown (k-low now) I step₅) (y .held)))
+            (held-records (newRecord h) (newRecord h) (omega arith) (omega arith) (held-more (grown (k-low now) I step₅) (y .held)))
             (counters-help 9 (q .index) (q .depth) (newRecord h) (y .counters) not-find₅ (omega arith) (omega arith) (y .counters .index-high) (λ z. absurd (omega arith)) (λ z x. absurd (omega arith)) (λ z. absurd (omega arith)))
             (omega arith)
             (own-prune (k-low now) (newRecord h) (omega arith) refl refl (y .counters .early-depth (omega arith)) delete

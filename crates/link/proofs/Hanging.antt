@@ -14,6 +14,7 @@ use Rattle.tables.specs.Layout.{nodeAt, tagWord, childWord, recordWord, childPl
 use Rattle.tables.specs.Place.{inNode, Inside}
 use Rattle.tables.specs.declared.header.Header.{Header}
 use Rattle.tables.proofs.Places.{read-same}
+use Rattle.tables.proofs.Picks.{both-is}
 use Rattle.process.specs.declared.Process.{Process}
 use Rattle.process.specs.Process.{withPoint, withIndex}
 use Rattle.process.specs.Answer.{goingOn}
@@ -30,7 +31,7 @@ use Rattle.history.proofs.Helps.{Marks, Helps, LooksForL, LooksForP, l-found, l
 use Rattle.history.proofs.Knows.{Mind, KnowsAt, Serves}
 use Rattle.link.specs.Tables.{viewOf, tablesOf, stackOf}
 use Rattle.link.proofs.Writes.{Writes, writes-node, writes-tables, child-swap}
-use Rattle.link.proofs.Checks.{both-is, below-good}
+use Rattle.link.proofs.Checks.{below-good}
 use Rattle.link.proofs.Minds.{mindOf, CountersBy, held-more}
 use Rattle.link.proofs.Moments.{tables, Now, Busy, Follows, already, afterwards, Swapper, at-7, at-13, Turn, k-low, now-sound, quiet}
 use Rattle.link.proofs.Seeing.{counters-help}

@@ -23,7 +23,7 @@ use Rattle.points.specs.Touch.{Row, seenBy}
 use Rattle.tables.specs.Pending.{pendingOf}
 use Rattle.points.specs.Help.{topOf, helping, helpEnded}
 use Rattle.points.specs.Rows.{kinAt, touch2, touch4, touch5, touch9, atLeaf, atChild, lookRow, hangRow, unflagRow, row1, row2, row3, row4, row5, row6, row7, row8, row9, row10, row11, row12, row13, row14, rowOf}
-use Rattle.link.proofs.Stepping.{row-at-1, row-at-2, row-at-3, row-at-4, row-at-5, row-at-6, row-at-7, row-at-8, row-at-9, row-at-10, row-at-11, row-at-12, row-at-13, row-at-14}
+use Rattle.points.proofs.Steps.{row-at-1, row-at-2, row-at-3, row-at-4, row-at-5, row-at-6, row-at-7, row-at-8, row-at-9, row-at-10, row-at-11, row-at-12, row-at-13, row-at-14}
 
 -- the own record is kept; or is the new one, at 4 or 5; or there is none now: there was none, or 10 gives it up
 pub data OwnTo (h : Header) (q q′ : Process) : Type 0 where

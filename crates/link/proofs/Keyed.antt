@@ -9,6 +9,7 @@ use lib.Dec.{ltb, eqb}
 use borrow.Author.Tests.{eqb-true, eq-eqb, lt-ltb}
 use lib.ListN.{getD, take, drop}
 use Rattle.tables.specs.Choice.{pick, both, listed}
+use Rattle.tables.specs.Numbers as numbers
 use Rattle.tables.specs.Layout.{keyWord, tagWord}
 use Rattle.tables.specs.Keys.{keysOf, rises, holds, firstAt, greaterAt, equalAt, routeOf, putIn, takenOut}
 use Rattle.tables.specs.declared.header.Header.{Header}
@@ -104,10 +105,10 @@ unfolding rises both infinity
 sorted-rises [] s = refl
 sorted-rises (x ∷ xs) s = go (s .rises) (λ (r : Rises xs). sorted-rises xs (record { rises = r; finite = λ y m. s .finite y (List·Memᴰ·tail m) }))
   where
-    low : (xs : List ℕ) → ((y : ℕ) → List·Memᴰ y xs → x < y) → x < 4294967295 → x < getD xs 0 4294967295
+    low : (xs : List ℕ) → ((y : ℕ) → List·Memᴰ y xs → x < y) → x < numbers.infinity → x < getD xs 0 numbers.infinity
     low [] f l = l
     low (y ∷ ys) f l = f y (List·Memᴰ·head refl)
 
-    go : Rises (x ∷ xs) → (Rises xs → rises xs ≡ true) → both (ltb x (getD xs 0 4294967295)) (rises xs) ≡ true
+    go : Rises (x ∷ xs) → (Rises xs → rises xs ≡ true) → both (ltb x (getD xs 0 numbers.infinity)) (rises xs) ≡ true
     go (next f r) ih =
-        rw (lt-ltb x (getD xs 0 4294967295) (low xs f (s .finite x (List·Memᴰ·head refl)))) (ih r)
+        rw (lt-ltb x (getD xs 0 numbers.infinity) (low xs f (s .finite x (List·Memᴰ·head refl)))) (ih r)

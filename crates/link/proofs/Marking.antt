@@ -16,7 +16,7 @@ use Rattle.tables.specs.Place.{inNode, inStack, Inside}
 use Rattle.tables.specs.Pending.{pendingOf}
 use Rattle.tables.specs.declared.header.Header.{Header}
 use Rattle.tables.proofs.Places.{read-same}
-use Rattle.tables.proofs.Picks.{both-1, both-2}
+use Rattle.tables.proofs.Picks.{both-1, both-2, both-is}
 use Rattle.process.specs.declared.Process.{Process}
 use Rattle.process.specs.Process.{withIndex, withOther, withDepth, toEleven, toTwelve}
 use Rattle.process.specs.Answer.{goingOn}
@@ -38,7 +38,7 @@ use Rattle.history.proofs.Knows.{Mind, KnowsAt, Owns, none-yet, owns, Serves}
 use Rattle.history.proofs.Serving as serving
 use Rattle.link.specs.Tables.{viewOf, tablesOf, stackOf}
 use Rattle.link.proofs.Writes.{Writes, writes-none, writes-node, writes-stack, writes-tables, pend-swap, tables-same, stack-same, stack-over-stack, stack-new}
-use Rattle.link.proofs.Checks.{both-is, word-names, pending-good, below-good}
+use Rattle.link.proofs.Checks.{word-names, pending-good, below-good}
 use Rattle.link.proofs.Minds.{mindOf, CountersBy, held-more, stack-room}
 use Rattle.link.proofs.Moments.{tables, Now, Busy, Follows, already, afterwards, nobody, Turn, k-low, now-sound, quiet}
 use Rattle.link.proofs.Seeing.{counters-help, held-other, Loose, free, below, helps-on}
@@ -304,7 +304,7 @@ module _ {hs : ℕ → Header} {bs : ℕ → List ℕ} {i j n : ℕ} (now : Now 
             by false x false z v = absurd (no v)
               where
                 no : both (not false) (not false) ≡ false → ⊥
-                no v = let a : true ≡ false = sym (both-is {a = true} {c = true} refl refl) ∙ v in let c : _≡_ {A = ℕ} 0 1 = cc in omega arith
+                no v = let a : true ≡ false = sym (both-is {s = true} {t = true} refl refl) ∙ v in let c : _≡_ {A = ℕ} 0 1 = cc in omega arith
 
         go : (t : Bool) → notes b h q child ≡ t → Turn hs bs i j n q (both (childGood b h P (touch11 b h q)) (notedGood h q child t)) (noted h q (otherWith q child t)) b
         go true e =

@@ -9,13 +9,14 @@ use lib.Count.{ones}
 use lib.Dec.{ltb, leb, eqb}
 use borrow.Author.Tests.{lt-ltb, le-leb, ne-eqb, eqb-true, leb-true, ltb-false}
 use Rattle.tables.specs.Choice.{pick, both, within}
+use Rattle.tables.specs.Numbers.{infinity}
 use Rattle.tables.specs.Layout.{depthOf, tagWord, recordWord, processField}
 use Rattle.tables.specs.Pending.{wordOf}
 use Rattle.tables.specs.Node.{kinOf, isNode, isInternal, isLeaf}
 use Rattle.tables.specs.declared.header.Header.{Header}
 use Rattle.tables.specs.declared.pending.Pending.{Pending}
 use Rattle.tables.specs.declared.pending.Pending.the-variants.{Clean, Replace, Prune, Mark}
-use Rattle.tables.proofs.Picks.{within-low, within-high}
+use Rattle.tables.proofs.Picks.{within-low, within-high, both-is}
 use Rattle.process.specs.declared.Process.{Process}
 use Rattle.damage.specs.Fields.{given, zeroOr, pointOfInsert, pointGood, usesIndex, numbersGood, nodesGood, recordsGood, usesGood, processGood}
 use Rattle.damage.specs.Helped.{kindAt, recordGood, helpedGood}
@@ -29,11 +30,11 @@ use Rattle.history.proofs.Stacks.{Stacked, stack-depth}
 use Rattle.history.proofs.Knows.{Mind, Serves}
 use Rattle.link.specs.Tables.{viewOf, tablesOf, stackOf}
 use Rattle.link.proofs.Writes.{Fit}
-use Rattle.link.proofs.Checks.{both-is, within-is, Names, inner-good, leaf-good, node-good, pending-good, replace-good, prune-good}
+use Rattle.link.proofs.Checks.{within-is, Names, inner-good, leaf-good, node-good, pending-good, replace-good, prune-good}
 
 -- a process record as the history sees it
-abbrev pub mindOf : Header → List ℕ → ℕ → Process → Mind
-mindOf h b n q = record {
+abbrev pub mindWith : (ℕ → ℕ) → ℕ → Process → Mind
+mindWith stack n q = record {
   process = n;
   operation = q .operation;
   key = q .key;
@@ -48,9 +49,12 @@ mindOf h b n q = record {
   helped = q .helped;
   other = q .other;
   depth = q .depth;
-  stack = stackOf h b n;
+  stack = stack;
   own = q .own;
 }
+
+abbrev pub mindOf : Header → List ℕ → ℕ → Process → Mind
+mindOf h b n q = mindWith (stackOf h b n) n q
 
 -- what it names is in use
 pub record Held (k : ℕ) (s : Shared) (gp p l : ℕ) (pseen gseen : Pending) (helped other own : ℕ) : Type 0 where
@@ -71,7 +75,7 @@ HeldBy k s q = Held k s (q .gp) (q .p) (q .l) (q .pseen) (q .gseen) (q .helped) 
 pub record Counters (k operation key point index mask depth own : ℕ) : Type 0 where
   pub op-low : 1 ≤ operation
   pub op-high : operation ≤ 3
-  pub finite : key < 4294967295
+  pub finite : key < infinity
   pub point-low : 1 ≤ point
   pub point-high : point ≤ 14
   pub find : operation ≡ 1 → point ≤ 2
@@ -187,7 +191,7 @@ unfolding processGood numbersGood nodesGood recordsGood
 process-good {h} {b} q fit I w c u =
     both-is
     (both-is (within-is 1 (q .operation) 3 (c .op-low) (c .op-high))
-    (both-is (lt-ltb (q .key) 4294967295 (c .finite))
+    (both-is (lt-ltb (q .key) infinity (c .finite))
     (both-is (point-good (q .operation) (q .point) (c .point-low) (c .point-high) (c .find) (c .insert-3) (c .insert-5))
     (both-is (le-leb (q .index) (h .k) (c .index-high))
     (both-is (lt-ltb (q .mask) (2 ^ h .k) (c .mask-high)) (le-leb (q .depth) (depthOf h) (u .room)))))))

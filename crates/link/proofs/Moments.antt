@@ -6,6 +6,7 @@ use mathlib.Core.Bool.{Bool, true}
 use mathlib.Core.List.{List}
 use native.Mathlib.Omega.{arith}
 use lib.Pow.{pow-pos}
+use Rattle.tables.specs.Numbers.{infinity}
 use Rattle.tables.specs.Layout.{childWord, recordWord, processField, operationField, keyField}
 use Rattle.tables.specs.declared.header.Header.{Header}
 use Rattle.tables.specs.declared.pending.Pending.the-variants.{Clean}
@@ -149,7 +150,7 @@ module _ {hs : ℕ → Header} {bs : ℕ → List ℕ} {j : ℕ} (now : Now hs b
           let w = way-root k-low (now .run) (now .first) (M .key) in
           record { was = record { when = w .was .when; from = omega (arith, w .was .from); to = w .was .to; holds = w .was .holds }; used = w .used; inner = w .inner }
 
-pub counters-root : {k operation key : ℕ} → 1 ≤ operation → operation ≤ 3 → key < 4294967295 → 2 ≤ k → Counters k operation key 1 0 0 0 0
+pub counters-root : {k operation key : ℕ} → 1 ≤ operation → operation ≤ 3 → key < infinity → 2 ≤ k → Counters k operation key 1 0 0 0 0
 counters-root {k} a c f l = record {
   op-low = a;
   op-high = c;

@@ -11,9 +11,11 @@ use lib.ListN.{length, length-set}
 use lib.Seq.{getD-set-same, getD-set-other}
 use borrow.Author.Tests.{eq-eqb, ne-eqb}
 use Rattle.tables.specs.Choice.{pick, both}
+use Rattle.tables.specs.Numbers.{infinity}
 use Rattle.tables.specs.Layout.{childWord}
 use Rattle.tables.specs.Header.{headerOf}
 use Rattle.tables.specs.declared.header.Header.{Header}
+use Rattle.tables.proofs.Picks.{both-is, both-false, false-both}
 use Rattle.process.specs.declared.Process.{Process}
 use Rattle.process.specs.declared.Stepped.{Stepped}
 use Rattle.process.specs.Process.{idle, startedAs}
@@ -25,7 +27,6 @@ use Rattle.history.specs.Run.{Step, step-swaps}
 use Rattle.link.specs.Tables.{tablesOf}
 use Rattle.link.specs.Events.{Event, start, step, State, taken, startIn, stepIn, after, eventAt, stateAt, blockAt, headerAt, Proper, isAccepted, starts, sinceAt}
 use Rattle.link.specs.Swaps.{Swapping, seven, thirteen, ChildSwap}
-use Rattle.link.proofs.Checks.{both-is}
 use Rattle.link.proofs.Minds.{mindOf}
 use Rattle.link.proofs.Moments.{tables, Now, Busy, Swapper, at-7, at-13, nobody, Turn, same-self, same-none, k-low, held-root, descends-root, counters-root}
 use Rattle.link.proofs.Searching.{known}
@@ -38,6 +39,11 @@ use Rattle.link.proofs.Calls.{putBack, stepRefusedIn, stepDoneIn, start
 pub data Doing (s : State) (es : List Event) (m n : ℕ) : Type 0 where
   idles : taken (stateAt s es m) n .operation ≡ 0 → Doing s es m n
   works : Busy (headerAt s es) (blockAt s es) (sinceAt s es n m) m n (taken (stateAt s es m) n) → Doing s es m n
+
+pub at-work : {s : State} {es : List Event} {m n : ℕ} → taken (stateAt s es m) n .operation ≢ 0 → Doing s es m n
+    → Busy (headerAt s es) (blockAt s es) (sinceAt s es n m) m n (taken (stateAt s es m) n)
+at-work d (idles e) = absurd (d e)
+at-work d (works y) = y
 
 -- the invariant of the real state at moment m
 pub record Good (s : State) (es : List Event) (m : ℕ) : Type 0 where
@@ -57,11 +63,6 @@ since-next s es m n e t z f = ap (λ (u : Bool). pick u (suc m) (sinceAt s es n 
 pub since-stays : (s : State) (es : List Event) (m n : ℕ) (e : Event) → eventAt es m ≡ e → starts (stateAt s es m) e n ≡ false → sinceAt s es n (suc m) ≡ sinceAt s es n m
 unfolding pick
 since-stays s es m n e z f = since-next s es m n e false z f
-
-both-false : (t : Bool) → both t false ≡ false
-unfolding both
-both-false true = refl
-both-false false = refl
 
 module _ {s : State} {es : List Event} {m : ℕ} (good : Good s es m) where
   abbrev hs : ℕ → Header
@@ -156,7 +157,7 @@ module _ {s : State} {es : List Event} {m : ℕ} (good : Good s es m) where
             (good .each p (place-back (good .now) its-shift v))
 
   -- a start that is accepted
-  module _ (n operation key : ℕ) (u : In (hs m .processes) n) (z : eventAt es m ≡ start n operation key) (low : 1 ≤ operation) (high : operation ≤ 3) (fin : key < 4294967295)
+  module _ (n operation key : ℕ) (u : In (hs m .processes) n) (z : eventAt es m ≡ start n operation key) (low : 1 ≤ operation) (high : operation ≤ 3) (fin : key < infinity)
       (e : startIn (W m) n operation key ≡ startDoneIn (W m) n operation key) where
     pub begun : W (suc m) ≡ putBack (W m) (bs m) n (startedAs operation key)
     begun = state-next s es m (start n operation key) z ∙ ap (started-to (W m)) e
@@ -202,11 +203,8 @@ module _ {s : State} {es : List Event} {m : ℕ} (good : Good s es m) where
             (subst (λ (a : ℕ). Busy hs bs a (suc m) n (startedAs operation key)) (sym since-now) own)))
         one p v (no d) =
             doing-next same-shift p d (taken-other n (bs m) (startedAs operation key) begun u p (v .low) d)
-            (since-stays s es m p (start n operation key) z (ap (λ (t : Bool). both t (isAccepted (startIn (W m) n operation key .answer))) (ne-eqb n p (λ x. d (sym x))) ∙ no-both (isAccepted (startIn (W m) n operation key .answer))))
+            (since-stays s es m p (start n operation key) z (ap (λ (t : Bool). both t (isAccepted (startIn (W m) n operation key .answer))) (ne-eqb n p (λ x. d (sym x))) ∙ false-both (isAccepted (startIn (W m) n operation key .answer))))
             (good .each p (place-back (good .now) same-shift v))
-          where
-            no-both : (t : Bool) → both false t ≡ false
-            no-both t = refl
 
   go-on : (e : Event) → eventAt es m ≡ e → Proper e → Good s es (suc m)
   go-on (step n) z x = go (calls.step-goes (W m) (good .now .fit) (good .rows) n)
@@ -215,14 +213,10 @@ module _ {s : State} {es : List Event} {m : ℕ} (good : Good s es m) where
       refused r e =
           still (state-next s es m (step n) z ∙ ap stepped-to e) (λ p. since-stays s es m p (step n) z refl)
 
-      busy : In (hs m .processes) n → taken (W m) n .operation ≢ 0 → Doing s es m n → Busy hs bs (sinceAt s es n m) m n (taken (W m) n)
-      busy u d (idles e) = absurd (d e)
-      busy u d (works y) = y
-
       go : calls.Step (W m) (good .now .fit) (good .rows) n → Good s es (suc m)
       go (calls.unknown d e) = refused 4 e
       go (calls.rests u d e) = refused 8 e
-      go (calls.works u d f) = let y = busy u d (good .each n u) in steps n u z y (f (step-sound (good .now) (taken (W m) n) y))
+      go (calls.works u d f) = let y = at-work d (good .each n u) in steps n u z y (f (step-sound (good .now) (taken (W m) n) y))
   go-on (start n operation key) z x = go (calls.start-goes (W m) (good .now .fit) (good .rows) n operation key)
     where
       go : calls.Start (W m) (good .now .fit) (good .rows) n operation key → Good s es (suc m)
@@ -246,7 +240,7 @@ pub record Move (s : State) (es : List Event) (m : ℕ) : Type 0 where
   pub step : Step (headerAt s es m .k) (tables (headerAt s es) (blockAt s es) m) (tables (headerAt s es) (blockAt s es) (suc m))
   pub kind : Kind s es m step
 
-step-one : (n p : ℕ) → step n ≡ step p → n ≡ p
+pub step-one : (n p : ℕ) → step n ≡ step p → n ≡ p
 step-one n p e = cc
 
 start-step : (n operation key p : ℕ) → start n operation key ≡ step p → ⊥
@@ -324,14 +318,10 @@ module _ {s : State} {es : List Event} {m : ℕ} (good : Good s es m) where
       here : (r : ℕ) (w : ChildSwap s es m r) → w .process ≡ n
       here r w = step-one (w .process) n (sym (w .event) ∙ z)
 
-      busy : taken (W₁ m) n .operation ≢ 0 → Doing s es m n → Busy hs₁ bs₁ (sinceAt s es n m) m n (taken (W₁ m) n)
-      busy d (idles e) = absurd (d e)
-      busy d (works y) = y
-
       go : calls.Step (W₁ m) (good .now .fit) (good .rows) n → Move s es m
       go (calls.unknown d e) = rested (same 4 e) (λ r w. d (subst (λ (p : ℕ). In (hs₁ m .processes) p) (here r w) (w .exists)))
       go (calls.rests u d e) = rested (same 8 e) (λ r w. subst (λ (p : ℕ). taken (W₁ m) p .operation ≢ 0) (here r w) (w .busy) d)
-      go (calls.works u d f) = let y = busy d (good .each n u) in moved n u d z y (f (step-sound (good .now) (taken (W₁ m) n) y))
+      go (calls.works u d f) = let y = at-work d (good .each n u) in moved n u d z y (f (step-sound (good .now) (taken (W₁ m) n) y))
   move-by (start n operation key) z =
       rested (ap (λ (x : State). x .block) (state-next s es m (start n operation key) z)) (λ r w. start-step n operation key (w .process) (sym z ∙ w .event))
 

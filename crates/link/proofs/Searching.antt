@@ -20,6 +20,7 @@ use Rattle.tables.specs.declared.node.Kin.the-variants.{Leaf, Internal}
 use Rattle.tables.specs.declared.pending.Pending.{Pending}
 use Rattle.tables.specs.declared.pending.Pending.the-variants.{Clean, Replace, Prune, Mark}
 use Rattle.tables.proofs.OneToOne.{pending-word, word-pending}
+use Rattle.tables.proofs.Picks.{both-is}
 use Rattle.process.specs.declared.Process.{Process}
 use Rattle.process.specs.Process.{withPoint, withPSeen, withL, descendedOf, toThree, isCleanOf}
 use Rattle.process.specs.Answer.{answer, goingOn}
@@ -34,7 +35,7 @@ use Rattle.history.proofs.Knows.{Mind, to-put, KnowsAt, Descends, Reads}
 use Rattle.history.proofs.Downward.{row-1, row-2-down, row-2-replace, row-2-count}
 use Rattle.link.specs.Tables.{stackOf}
 use Rattle.link.proofs.Keyed.{keys-are, route-are, holds-mem, holds-not, sorted-rises}
-use Rattle.link.proofs.Checks.{both-is, Names, word-names, kin-internal, kin-leaf, below-good, pending-good}
+use Rattle.link.proofs.Checks.{Names, word-names, kin-internal, kin-leaf, below-good, pending-good}
 use Rattle.link.proofs.Minds.{mindOf, HeldBy, Counters, CountersBy}
 use Rattle.link.proofs.Moments.{tables, Now, Busy, found, missing, there, not-there, Follows, already, answers, Turn, k-low, now-sound, quiet}
 use Rattle.link.proofs.Seeing.{free, helps-on}

@@ -52,9 +52,9 @@ counters-help point′ index′ depth′ own′ c o l g i x y z = record {
   index-11 = y;
 }
 
-pub held-helped : {k : ℕ} {s : Shared} {gp p l : ℕ} {pseen gseen : Pending} {helped other own : ℕ} (r : ℕ) → r ≤ s .records → Held k s gp p l pseen gseen helped other own
-    → Held k s gp p l pseen gseen r other own
-held-helped r e w = record {
+pub held-records : {k : ℕ} {s : Shared} {gp p l : ℕ} {pseen gseen : Pending} {helped other own : ℕ} (r r′ : ℕ) → r ≤ s .records → r′ ≤ s .records
+    → Held k s gp p l pseen gseen helped other own → Held k s gp p l pseen gseen r other r′
+held-records r r′ e e′ w = record {
   p-used = w .p-used;
   p-inner = w .p-inner;
   gp-good = w .gp-good;
@@ -63,8 +63,12 @@ held-helped r e w = record {
   pseen-good = w .pseen-good;
   gseen-good = w .gseen-good;
   helped-good = e;
-  own-good = w .own-good;
+  own-good = e′;
 }
+
+held-helped : {k : ℕ} {s : Shared} {gp p l : ℕ} {pseen gseen : Pending} {helped other own : ℕ} (r : ℕ) → r ≤ s .records → Held k s gp p l pseen gseen helped other own
+    → Held k s gp p l pseen gseen r other own
+held-helped {own = own} r e w = held-records r own e (w .own-good) w
 
 pub held-other : {k : ℕ} {s : Shared} {gp p l : ℕ} {pseen gseen : Pending} {helped other own : ℕ} (v : ℕ) → (v ≡ 0) ⊎ In (s .nodes) v
     → Held k s gp p l pseen gseen helped other own → Held k s gp p l pseen gseen helped v own

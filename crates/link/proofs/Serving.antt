@@ -11,7 +11,6 @@ use borrow.Author.Tests.{eqb-true, eqb-false, ltb-true, ltb-false, lt-ltb}
 use Rattle.tables.specs.Choice.{pick}
 use Rattle.tables.specs.Numbers.{nodeWords}
 use Rattle.tables.specs.Layout.{depthOf, nodeAt, tagWord, childWord, stackWord, processField}
-use Rattle.tables.specs.Place.{inNode, Inside}
 use Rattle.tables.specs.declared.header.Header.{Header}
 use Rattle.process.specs.declared.Process.{Process}
 use Rattle.process.specs.declared.Stepped.{Stepped}
@@ -27,7 +26,7 @@ use Rattle.history.proofs.Helps.{Helps}
 use Rattle.history.proofs.Knows.{Mind, Serves, stays-at}
 use Rattle.history.proofs.Serving.{serves-on}
 use Rattle.link.specs.Tables.{tablesOf, stackOf}
-use Rattle.link.proofs.Writes.{Writes, writes-fit, stack-same, stack-over-node}
+use Rattle.link.proofs.Writes.{Writes, in-node, in-record, writes-fit, stack-same, stack-over-node}
 use Rattle.link.proofs.Checks.{below-good}
 use Rattle.link.proofs.Minds.{mindOf}
 use Rattle.link.proofs.Moments.{tables, Now, Busy, Follows, Swapper, Turn, now-sound, quiet}
@@ -77,19 +76,16 @@ module _ {hs : ℕ → Header} {bs : ℕ → List ℕ} {i j n : ℕ} (now : Now 
     swapper = swapper;
     stacks = stacks;
     owners′ =
-        λ r u. rw (w .rec r processField (record { from-one = u .low; to-last = omega (arith, u .high, now .fit .limits .drawn-high); within = omega arith })) (now .owners r u);
+        λ r u. rw (w .rec r processField (in-record (now .fit) r processField u (omega arith))) (now .owners r u);
     drawn-by = λ r a c. absurd (omega arith);
     follows = f;
   }
-
-  in-node : (a off : ℕ) → In (h .nodesused) a → off < nodeWords k → Inside h (inNode a off)
-  in-node a off u l = record { from-one = u .low; to-last = omega (arith, u .high, now .fit .limits .used-high); within = l }
 
   -- no stack changes where a node's word is written
   pub stacks-node : (a off v : ℕ) → In (h .nodesused) a → off < nodeWords k → (m : ℕ) → In (h .processes) m → stackOf h (set b (nodeAt h a off) v) m ≡ stackOf h b m
   stacks-node a off v u l m p =
       stack-same h b (set b (nodeAt h a off) v) m
-      (λ d g. stack-over-node h b m d (record { from-one = p .low; to-last = p .high; within = g }) a off v (in-node a off u l))
+      (λ d g. stack-over-node h b m d (record { from-one = p .low; to-last = p .high; within = g }) a off v (in-node (now .fit) a off u l))
 
   -- 6, 12: one child looked at
   pub looks : (parent target found missed : ℕ) → q .point ≢ 7 → q .point ≢ 13 → In (h .nodesused) parent → tagWord b h parent ≡ k → In k (q .index)

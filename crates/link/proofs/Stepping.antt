@@ -4,17 +4,17 @@ use mathlib.Core.Path.{_≡_, refl, sym, subst}
 use mathlib.Core.Bool.{true}
 use mathlib.Core.List.{List}
 use native.Mathlib.Omega.{arith}
-use Rattle.tables.specs.Choice.{pick}
 use Rattle.tables.specs.Layout.{depthOf}
 use Rattle.tables.specs.declared.header.Header.{Header}
+use Rattle.tables.proofs.Picks.{both-is}
 use Rattle.process.specs.declared.Process.{Process}
 use Rattle.points.specs.Touch.{Row}
-use Rattle.points.specs.Rows.{row1, row2, row3, row4, row5, row6, row7, row8, row9, row10, row11, row12, row13, row14, rowOf}
+use Rattle.points.specs.Rows.{rowOf}
 use Rattle.points.specs.Step.{soundStep}
+use Rattle.points.proofs.Steps.{row-at-1, row-at-2, row-at-3, row-at-4, row-at-5, row-at-6, row-at-7, row-at-8, row-at-9, row-at-10, row-at-11, row-at-12, row-at-13, row-at-14}
 use Rattle.history.specs.Shared.{Shared}
 use Rattle.history.proofs.Invariant.{Sound}
 use Rattle.history.proofs.Knows.{Mind, KnowsAt, Serves}
-use Rattle.link.proofs.Checks.{both-is}
 use Rattle.link.proofs.Minds.{mindOf, Uses, process-good, serves-uses, helps-kind, helps-good}
 use Rattle.link.proofs.Moments.{tables, Now, Busy, Turn, now-sound}
 use Rattle.link.proofs.Searching.{turn-1, turn-2}
@@ -23,63 +23,6 @@ use Rattle.link.proofs.Flagging.{turn-4, turn-5}
 use Rattle.link.proofs.Hanging.{turn-6, turn-7, turn-12, turn-13}
 use Rattle.link.proofs.Ending.{turn-8, turn-10, turn-14}
 use Rattle.link.proofs.Marking.{turn-9, turn-11}
-
-module _ (b : List ℕ) (h : Header) (n : ℕ) (q : Process) where
-  pub row-at-1 : q .point ≡ 1 → rowOf b h n q ≡ row1 b h q
-  unfolding rowOf pick
-  row-at-1 e = rw e refl
-
-  pub row-at-2 : q .point ≡ 2 → rowOf b h n q ≡ row2 b h q
-  unfolding rowOf pick
-  row-at-2 e = rw e refl
-
-  pub row-at-3 : q .point ≡ 3 → rowOf b h n q ≡ row3 b h q
-  unfolding rowOf pick
-  row-at-3 e = rw e refl
-
-  pub row-at-4 : q .point ≡ 4 → rowOf b h n q ≡ row4 b h n q
-  unfolding rowOf pick
-  row-at-4 e = rw e refl
-
-  pub row-at-5 : q .point ≡ 5 → rowOf b h n q ≡ row5 b h n q
-  unfolding rowOf pick
-  row-at-5 e = rw e refl
-
-  pub row-at-6 : q .point ≡ 6 → rowOf b h n q ≡ row6 b h q
-  unfolding rowOf pick
-  row-at-6 e = rw e refl
-
-  pub row-at-7 : q .point ≡ 7 → rowOf b h n q ≡ row7 b h q
-  unfolding rowOf pick
-  row-at-7 e = rw e refl
-
-  pub row-at-8 : q .point ≡ 8 → rowOf b h n q ≡ row8 b h n q
-  unfolding rowOf pick
-  row-at-8 e = rw e refl
-
-  pub row-at-9 : q .point ≡ 9 → rowOf b h n q ≡ row9 b h n q
-  unfolding rowOf pick
-  row-at-9 e = rw e refl
-
-  pub row-at-10 : q .point ≡ 10 → rowOf b h n q ≡ row10 b h n q
-  unfolding rowOf pick
-  row-at-10 e = rw e refl
-
-  pub row-at-11 : q .point ≡ 11 → rowOf b h n q ≡ row11 b h q
-  unfolding rowOf pick
-  row-at-11 e = rw e refl
-
-  pub row-at-12 : q .point ≡ 12 → rowOf b h n q ≡ row12 b h q
-  unfolding rowOf pick
-  row-at-12 e = rw e refl
-
-  pub row-at-13 : q .point ≡ 13 → rowOf b h n q ≡ row13 b h q
-  unfolding rowOf pick
-  row-at-13 e = rw e refl
-
-  pub row-at-14 : q .point ≡ 14 → rowOf b h n q ≡ row14 b h n q
-  unfolding rowOf pick
-  row-at-14 e = rw e refl
 
 module _ {hs : ℕ → Header} {bs : ℕ → List ℕ} {i j n : ℕ} (now : Now hs bs j) (q : Process) (y : Busy hs bs i j n q) where
   abbrev h : Header

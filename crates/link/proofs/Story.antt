@@ -13,14 +13,13 @@ use Rattle.tables.specs.declared.header.Header.{Header}
 use Rattle.process.specs.declared.Process.{Process}
 use Rattle.process.specs.declared.Stepped.{Stepped}
 use Rattle.process.specs.Process.{startedAs, withSteps}
-use Rattle.process.specs.Answer.{stepsUp, goingOn}
+use Rattle.process.specs.Answer.{mostSteps, stepsUp, goingOn}
 use Rattle.points.specs.Rows.{rowOf}
 use Rattle.link.proofs.Calls.{stepDoneIn}
 use Rattle.history.specs.View.{In}
 use Rattle.history.specs.Shared.{Desc, Shared, Failed}
 use Rattle.history.proofs.Lasting.{failed-stays}
 use Rattle.history.proofs.Knows.{own-failed}
-use Rattle.history.proofs.Swapping.{drawn-between}
 use Rattle.link.specs.Events.{Event, start, step, State, taken, stepIn, eventAt, stateAt, blockAt, headerAt, starts, steppedBy, stepsAt, capped, sinceAt}
 use Rattle.link.proofs.Minds.{mindOf}
 use Rattle.link.proofs.Moments.{tables, Busy}
@@ -28,7 +27,7 @@ use Rattle.link.proofs.Searching.{known}
 use Rattle.link.proofs.Reached.{since-next, taken-own, taken-other, its-turn, its-shift, state-is, header-is}
 use Rattle.link.proofs.Keeps.{OwnTo, same-own, new-own, no-own, Kept, goes, stops, kept}
 use Rattle.link.proofs.Outcomes.{Outcome, nothing, begun, moved, outcome}
-use Rattle.link.proofs.Clauses.{Reached, good, hk, run, sound, sound₀, step-at, grows, processes-at}
+use Rattle.link.proofs.Clauses.{Reached, good, hk, sound, step-at, grows, processes-at}
 
 pub record Story (s : State) (es : List Event) (m n : ℕ) : Type 0 where
   pub begin : ℕ
@@ -44,12 +43,12 @@ pub record Story (s : State) (es : List Event) (m n : ℕ) : Type 0 where
 
 pub capped-up : (x : ℕ) → stepsUp (capped x) ≡ capped (x + 1)
 unfolding pick
-capped-up x = go (decLt x 4294967295) (decLt (x + 1) 4294967295)
+capped-up x = go (decLt x mostSteps) (decLt (x + 1) mostSteps)
   where
-    go : Dec (x < 4294967295) → Dec (x + 1 < 4294967295) → stepsUp (capped x) ≡ capped (x + 1)
-    go (yes a) (yes c) = rw (lt-ltb x 4294967295 a, lt-ltb x 4294967295 a, lt-ltb (x + 1) 4294967295 c) refl
-    go (yes a) (no c) = rw (lt-ltb x 4294967295 a, lt-ltb x 4294967295 a, le-ltb (x + 1) 4294967295 (omega arith)) (omega arith)
-    go (no a) c = rw (le-ltb x 4294967295 (omega arith), le-ltb (x + 1) 4294967295 (omega arith)) refl
+    go : Dec (x < mostSteps) → Dec (x + 1 < mostSteps) → stepsUp (capped x) ≡ capped (x + 1)
+    go (yes a) (yes c) = rw (lt-ltb x mostSteps a, lt-ltb x mostSteps a, lt-ltb (x + 1) mostSteps c) refl
+    go (yes a) (no c) = rw (lt-ltb x mostSteps a, lt-ltb x mostSteps a, le-ltb (x + 1) mostSteps (omega arith)) (omega arith)
+    go (no a) c = rw (le-ltb x mostSteps (omega arith), le-ltb (x + 1) mostSteps (omega arith)) refl
 
 pub steps-next : (s : State) (es : List Event) (m n : ℕ) (t u : Bool) → starts (stateAt s es m) (eventAt es m) n ≡ t → steppedBy (stateAt s es m) (eventAt es m) n ≡ u
     → stepsAt s es n (suc m) ≡ pick t 0 (pick u (stepsAt s es n m + 1) (stepsAt s es n m))
@@ -66,13 +65,6 @@ module _ {s : State} {es : List Event} (reached : Reached s es) where
   since-same : (m n : ℕ) → starts (W m) (eventAt es m) n ≡ false → sinceAt s es n (suc m) ≡ sinceAt s es n m
   unfolding pick
   since-same m n e = since-next s es m n (eventAt es m) false refl e
-
-  -- a record drawn in the step from m is the next one
-  next-one : (m r : ℕ) → S m .records < r → r ≤ S (suc m) .records → r ≡ S m .records + 1
-  next-one m r a c =
-      let d = drawn-between (hk reached) (run reached (suc m)) (sound₀ reached) m (suc m) r (omega arith) (omega arith) a c in
-      let z : d .when ≡ m = omega (arith, d .from, d .before) in
-      subst (λ (x : ℕ). r ≡ S x .records + 1) z (d .next)
 
   failed-on : (m r : ℕ) → In (S m .records) r → Failed (S m .view) (S m .rec r) r → Failed (S (suc m) .view) (S (suc m) .rec r) r
   failed-on m r u f = failed-stays (hk reached) (sound reached m) r (step-at reached m) u f

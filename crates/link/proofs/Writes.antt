@@ -1,6 +1,6 @@
 -- Writes of one node word, and of stack words: what they are to the tables as the history sees them.
 use Prim.Native.Nat.{ℕ, _*_, _-_, _≤_, _<_}
-use mathlib.Core.Path.{_≡_, refl, _∙_, fun-ext}
+use mathlib.Core.Path.{_≡_, refl, sym, _∙_, fun-ext}
 use mathlib.Core.Bool.{Bool, true, false}
 use mathlib.Core.List.{List}
 use native.Mathlib.Omega.{arith}
@@ -13,7 +13,7 @@ use Rattle.tables.specs.Layout.{blockWords, depthOf, nodeAt, stackAt, nodeWord,
 use Rattle.tables.specs.Header.{headerOf}
 use Rattle.tables.specs.Place.{inHeader, inNode, inRecord, inStack, Inside}
 use Rattle.tables.specs.declared.header.Header.{Header}
-use Rattle.tables.proofs.Places.{read-same, read-other}
+use Rattle.tables.proofs.Places.{header-node, header-stack, node-record, node-stack, record-stack, node-word, stack-word, read-same, read-other}
 use Rattle.tables.proofs.Limits.{Limits}
 use Rattle.history.specs.View.{In}
 use Rattle.history.specs.Change.{SwapChild, SwapPend, SameTables}
@@ -34,30 +34,13 @@ pub record Writes (h : Header) (b b′ : List ℕ) (p off : ℕ) : Type 0 where
   pub rec : (r f : ℕ) → Inside h (inRecord r f) → recordWord b′ h r f ≡ recordWord b h r f
   pub size : length b′ ≡ length b
 
--- places of different areas
-header-node : (i n o : ℕ) → inNode n o ≡ inHeader i → ⊥
-header-node i n o e = let z : _≡_ {A = ℕ} 0 1 = cc in omega arith
+-- words of nodes and records in use lie in the block
+module _ {h : Header} {b : List ℕ} (fit : Fit h b) where
+  pub in-node : (n o : ℕ) → In (h .nodesused) n → o < nodeWords (h .k) → Inside h (inNode n o)
+  in-node n o i l = record { from-one = i .low; to-last = omega (arith, i .high, fit .limits .used-high); within = l }
 
-record-node : (r f n o : ℕ) → inNode n o ≡ inRecord r f → ⊥
-record-node r f n o e = let z : _≡_ {A = ℕ} 0 1 = cc in omega arith
-
-stack-node : (q d n o : ℕ) → inNode n o ≡ inStack q d → ⊥
-stack-node q d n o e = let z : _≡_ {A = ℕ} 0 1 = cc in omega arith
-
-header-stack : (i q d : ℕ) → inStack q d ≡ inHeader i → ⊥
-header-stack i q d e = let z : _≡_ {A = ℕ} 0 1 = cc in omega arith
-
-node-stack : (n o q d : ℕ) → inStack q d ≡ inNode n o → ⊥
-node-stack n o q d e = let z : _≡_ {A = ℕ} 0 1 = cc in omega arith
-
-record-stack : (r f q d : ℕ) → inStack q d ≡ inRecord r f → ⊥
-record-stack r f q d e = let z : _≡_ {A = ℕ} 0 1 = cc in omega arith
-
-node-word : (n o m u : ℕ) → inNode n o ≡ inNode m u → (m ≡ n) × (u ≡ o)
-node-word n o m u e = (cc, cc)
-
-stack-word : (n o m u : ℕ) → inStack n o ≡ inStack m u → (m ≡ n) × (u ≡ o)
-stack-word n o m u e = (cc, cc)
+  pub in-record : (r f : ℕ) → In (h .recordsused) r → f < recordWords → Inside h (inRecord r f)
+  in-record r f i l = record { from-one = i .low; to-last = omega (arith, i .high, fit .limits .drawn-high); within = l }
 
 module _ {h : Header} {b : List ℕ} where
   pub writes-none : (p off : ℕ) → Writes h b b p off
@@ -65,24 +48,24 @@ module _ {h : Header} {b : List ℕ} where
 
   pub writes-node : (p off v : ℕ) → Inside h (inNode p off) → Writes h b (set b (nodeAt h p off) v) p off
   writes-node p off v i = record {
-    header = λ m l. read-other h b (inNode p off) v i (inHeader m) l (header-node m p off);
+    header = λ m l. read-other h b (inNode p off) v i (inHeader m) l (λ e. header-node m p off (sym e));
     node = λ n o y d. read-other h b (inNode p off) v i (inNode n o) y (λ e. d (node-word p off n o e));
-    rec = λ r f y. read-other h b (inNode p off) v i (inRecord r f) y (record-node r f p off);
+    rec = λ r f y. read-other h b (inNode p off) v i (inRecord r f) y (node-record p off r f);
     size = simp length-set;
   }
 
   pub writes-stack : {b′ : List ℕ} {p off : ℕ} (q d v : ℕ) → Inside h (inStack q d) → Writes h b b′ p off → Writes h b (set b′ (stackAt h q d) v) p off
   writes-stack {b′} {p} {off} q d v i w = record {
-    header = λ m l. read-other h b′ (inStack q d) v i (inHeader m) l (header-stack m q d) ∙ w .header m l;
-    node = λ n o y e. read-other h b′ (inStack q d) v i (inNode n o) y (node-stack n o q d) ∙ w .node n o y e;
-    rec = λ r f y. read-other h b′ (inStack q d) v i (inRecord r f) y (record-stack r f q d) ∙ w .rec r f y;
+    header = λ m l. read-other h b′ (inStack q d) v i (inHeader m) l (λ e. header-stack m q d (sym e)) ∙ w .header m l;
+    node = λ n o y e. read-other h b′ (inStack q d) v i (inNode n o) y (λ z. node-stack n o q d (sym z)) ∙ w .node n o y e;
+    rec = λ r f y. read-other h b′ (inStack q d) v i (inRecord r f) y (λ e. record-stack r f q d (sym e)) ∙ w .rec r f y;
     size = simp length-set (w .size);
   }
 
 -- a stack word over each kind of write
 module _ (h : Header) (b : List ℕ) (n d : ℕ) (i : Inside h (inStack n d)) where
   pub stack-over-node : (p off v : ℕ) → Inside h (inNode p off) → stackWord (set b (nodeAt h p off) v) h n d ≡ stackWord b h n d
-  stack-over-node p off v j = read-other h b (inNode p off) v j (inStack n d) i (stack-node n d p off)
+  stack-over-node p off v j = read-other h b (inNode p off) v j (inStack n d) i (node-stack p off n d)
 
   pub stack-over-stack : (m e v : ℕ) → Inside h (inStack m e) → ¬ ((n ≡ m) × (d ≡ e)) → stackWord (set b (stackAt h m e) v) h n d ≡ stackWord b h n d
   stack-over-stack m e v j o = read-other h b (inStack m e) v j (inStack n d) i (λ z. o (stack-word m e n d z))
@@ -107,14 +90,8 @@ module _ {h : Header} {b b′ : List ℕ} {p off : ℕ} (fit : Fit h b) (w : Wri
   pub writes-fit : Fit h b′
   writes-fit = record { header = writes-header; limits = fit .limits; long = rw (w .size) (fit .long) }
 
-  in-node : (n o : ℕ) → In (h .nodesused) n → o < nodeWords (h .k) → Inside h (inNode n o)
-  in-node n o i l = record { from-one = i .low; to-last = omega (arith, i .high, fit .limits .used-high); within = l }
-
-  in-record : (r f : ℕ) → In (h .recordsused) r → f < recordWords → Inside h (inRecord r f)
-  in-record r f i l = record { from-one = i .low; to-last = omega (arith, i .high, fit .limits .drawn-high); within = l }
-
   word : (n o : ℕ) → In (h .nodesused) n → o < nodeWords (h .k) → ¬ ((n ≡ p) × (o ≡ off)) → nodeWord b′ h n o ≡ nodeWord b h n o
-  word n o i l d = w .node n o (in-node n o i l) d
+  word n o i l d = w .node n o (in-node fit n o i l) d
 
   k-low : 2 ≤ h .k
   k-low = fit .limits .numbers .k-low
@@ -123,7 +100,7 @@ module _ {h : Header} {b b′ : List ℕ} {p off : ℕ} (fit : Fit h b) (w : Wri
   writes-tables = record { nodes-same = refl; records-same = refl; rec-same = λ r i. same r i }
     where
       at : (r f : ℕ) → In (h .recordsused) r → f < recordWords → recordWord b′ h r f ≡ recordWord b h r f
-      at r f i l = w .rec r f (in-record r f i l)
+      at r f i l = w .rec r f (in-record fit r f i l)
 
       same : (r : ℕ) → In (h .recordsused) r → descOf h b′ r ≡ descOf h b r
       same r i =

@@ -13,6 +13,7 @@ use Rattle.process.specs.declared.Process.{Process}
 use Rattle.process.specs.declared.StepAnswer.{StepAnswer}
 use Rattle.process.specs.declared.StepAnswer.the-variants.{GoesOn, Ended, Refused as StepRefused}
 use Rattle.process.specs.Process.{idle}
+use Rattle.process.specs.Answer.{mostSteps}
 use Rattle.points.specs.declared.start.StartAnswer.{StartAnswer}
 use Rattle.points.specs.declared.start.StartAnswer.the-variants.{Accepted, Refused}
 use Rattle.index.specs.Calls.{recordOf, StartOut, startCall, StepOut, stepCall}
@@ -100,7 +101,7 @@ stepsAt s es n (suc m) =
 
 -- "which stays at 4,294,967,295 once there"
 abbrev pub capped : ℕ → ℕ
-capped x = pick (ltb x 4294967295) x 4294967295
+capped x = pick (ltb x mostSteps) x mostSteps
 
 -- what making leaves: the fresh tree over the front of the block, all process records idle over the front of the row
 abbrev pub freshState : ℕ → ℕ → ℕ → ℕ → List ℕ → List Process → State

@@ -16,6 +16,7 @@ use Rattle.tables.specs.declared.pending.Pending.{Pending}
 use Rattle.tables.specs.declared.node.Kin.{Kin}
 use Rattle.tables.specs.declared.node.Child.{Child}
 use Rattle.tables.specs.declared.node.Child.the-variants.{Node, Damaged}
+use Rattle.tables.proofs.Picks.{both-true, both-false}
 use Rattle.process.specs.Process.{withPoint, withIndex, withOther, withDepth, toEleven, toTwelve}
 use Rattle.process.specs.Answer.{goingOn, refusedAs}
 use Rattle.process.specs.declared.Process.{Process}
@@ -186,8 +187,6 @@ module _ (b : List ℕ) (h : Header) (n : ℕ) (q : Process) (p expected word : 
       (set b (stackAt h n (q .depth)) (q .helped))
       ∙ rw (e3, e2, e1, sym good-is ∙ f) refl
 
-pub ruleset nines = (nine-bad, nine-good)
-
 module _ (b : List ℕ) (h : Header) (n : ℕ) (q : Process) (gp word under : ℕ) (v : Bool) (s : Stepped) (e1 : gp ≡ helpedThird b h q)
     (e2 : word ≡ pendingWord b h gp) (e3 : under ≡ underTop b h n q) (e4 : v ≡ both (pendingGood b h (pendingOf word)) (popGood b h n q under)) where
   ten-sound : v ≡ both (pendingGood b h (pendingOf (pendingWord b h (helpedThird b h q)))) (popGood b h n q (underTop b h n q))
@@ -203,24 +202,12 @@ module _ (b : List ℕ) (h : Header) (n : ℕ) (q : Process) (gp word under : �
   unfolding row10
   ten-bad f g = row-not b q (row10 b h n q) s (sym ten-sound ∙ f) g
 
-pub ruleset tens = (ten-good, ten-bad)
-
 module _ (b : List ℕ) (h : Header) (q : Process) (seen l : ℕ) (kin : Kin) (t : Bool) (e : l ≡ helpedL b h q) (f : t ≡ nonEmpty kin) where
   pub notes-l : seen ≡ l → false ≡ notesKin b h q seen kin
-  unfolding both
-  notes-l g = let x : eqb seen (helpedL b h q) ≡ true = eq-eqb _ _ (g ∙ e) in rw x (false-both (nonEmpty kin))
-    where
-      false-both : (t : Bool) → false ≡ both t false
-      false-both true = refl
-      false-both false = refl
+  notes-l g = let x : eqb seen (helpedL b h q) ≡ true = eq-eqb _ _ (g ∙ e) in rw x (sym (both-false (nonEmpty kin)))
 
   pub notes-kin : (seen ≡ l → ⊥) → t ≡ notesKin b h q seen kin
-  unfolding both
-  notes-kin g = let x : eqb seen (helpedL b h q) ≡ false = ne-eqb _ _ (λ z. g (z ∙ sym e)) in rw x (f ∙ both-true (nonEmpty kin))
-    where
-      both-true : (t : Bool) → t ≡ both t true
-      both-true true = refl
-      both-true false = refl
+  notes-kin g = let x : eqb seen (helpedL b h q) ≡ false = ne-eqb _ _ (λ z. g (z ∙ sym e)) in rw x (f ∙ sym (both-true (nonEmpty kin)))
 
 module _ (q : Process) (noting r : Bool) where
   pub first-noting : noting ≡ true → r ≡ eqb (q .other) 0 → r ≡ either (not noting) (eqb (q .other) 0)

@@ -1,8 +1,8 @@
 -- What each row touches and leaves: a child word or the pending word of a node in use; the block as its touch leaves it, a stack word, a draw.
-use Prim.Native.Nat.{ℕ, _+_, _*_, _-_, _≤_, _<_}
+use Prim.Native.Nat.{ℕ, _*_, _-_, _≤_, _<_}
 use mathlib.Core.Path.{_≡_, refl, sym, _∙_}
 use mathlib.Core.Bool.{Bool, true, false, not}
-use mathlib.Core.List.{List, [], _∷_}
+use mathlib.Core.List.{List}
 use native.Mathlib.Omega.{arith}
 use lib.Dec.{ltb, leb, eqb}
 use lib.ListN.{length, set}
@@ -12,12 +12,13 @@ use Rattle.tables.specs.Layout.{depthOf, stackAt, tagWord, childPlace, pendingP
 use Rattle.tables.specs.Place.{Place, inNode}
 use Rattle.tables.specs.Pending.{wordOf}
 use Rattle.tables.specs.Node.{kinOf, nodeGood, isInternal}
-use Rattle.tables.specs.Keys.{keysOf, firstAt, routeOf}
+use Rattle.tables.specs.Keys.{keysOf, routeOf}
 use Rattle.tables.specs.declared.header.Header.{Header}
 use Rattle.tables.specs.declared.node.Child.{Child}
 use Rattle.tables.specs.declared.node.Child.the-variants.{Damaged}
 use Rattle.tables.proofs.Picks.{both-1, both-2, pick-true, pick-false, within-low, within-high}
 use Rattle.tables.proofs.Lists.{length-listed}
+use Rattle.tables.proofs.Keyed.{first-in}
 use Rattle.process.specs.declared.Process.{Process}
 use Rattle.damage.specs.Fields.{numbersGood, nodesGood, usesGood, processGood}
 use Rattle.damage.specs.Helped.{kindAt, placesGood, recordGood, helpedGood}
@@ -79,19 +80,10 @@ module _ (h : Header) (node : ℕ) (u : Used h node) where
   child-shared : (i : ℕ) → i ≤ h .k → Shared h node (childPlace (h .k) i)
   child-shared i p = record { from-one = u .from-one; to-used = u .to-used; from-children = omega arith; to-pending = omega arith }
 
-first-small : (passes : ℕ → Bool) (ks : List ℕ) → firstAt passes ks ≤ length ks
-unfolding firstAt pick
-first-small passes [] = omega arith
-first-small passes (y ∷ ys) = go (passes y) (first-small passes ys)
-  where
-    go : (t : Bool) → firstAt passes ys ≤ length ys → pick t 0 (firstAt passes ys + 1) ≤ length (y ∷ ys)
-    go true p = omega arith
-    go false p = omega arith
-
 route-small : (b : List ℕ) (h : Header) (node x : ℕ) → 2 ≤ h .k → routeOf b h node x ≤ h .k
 route-small b h node x p =
     let z : length (keysOf b h node (h .k - 1)) ≡ h .k - 1 = length-listed _ 1 (h .k - 1) in
-    omega (arith, first-small (λ y. ltb x y) (keysOf b h node (h .k - 1)))
+    omega (arith, first-in (λ y. ltb x y) (keysOf b h node (h .k - 1)))
 
 module _ (b : List ℕ) (h : Header) (n : ℕ) (q : Process) (known : Known b h n q) where
   numbers : numbersGood h q ≡ true

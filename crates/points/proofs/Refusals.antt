@@ -20,7 +20,7 @@ use Rattle.points.specs.declared.start.StartAnswer.the-variants as answe
 use Rattle.points.specs.declared.start.Started.{Started}
 use Rattle.points.proofs.Counted.{never-refused}
 
-one-step : (d e : Refusal) → Refused d ≡ Refused e → d ≡ e
+pub one-step : (d e : Refusal) → Refused d ≡ Refused e → d ≡ e
 one-step d e f = cc
 
 module _ (b : List ℕ) (rows n : ℕ) (q : Process) (e : Refusal) where
@@ -43,10 +43,10 @@ module _ (b : List ℕ) (rows n : ℕ) (q : Process) (e : Refusal) where
   unfolding both
   refused-keeps = call-leaves answered Refused refusing done (stepReasons b rows n q) (λ d. refl) one-step (never-refused b rows n q) refl e
 
-one-start : (d e : Refusal) → answers.Refused d ≡ answers.Refused e → d ≡ e
+pub one-start : (d e : Refusal) → answers.Refused d ≡ answers.Refused e → d ≡ e
 one-start d e f = cc
 
-not-accepted : (e : Refusal) → answers.Accepted ≡ answers.Refused e → ⊥
+pub not-accepted : (e : Refusal) → answers.Accepted ≡ answers.Refused e → ⊥
 not-accepted e f = let z : _≡_ {A = ℕ} 0 1 = cc in omega arith
 
 module _ (b : List ℕ) (rows n : ℕ) (q : Process) (operation key : ℕ) where

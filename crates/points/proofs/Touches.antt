@@ -75,6 +75,16 @@ module _ (b : List ℕ) (h : Header) where
       go true = length-set b (nodeAt h node word) to
       go false = refl
 
+-- the nodes that a draw needs, by its point
+module _ (b : List ℕ) (h : Header) (q : Process) where
+  pub needs-4 : q .point ≡ 4 → neededAt b h q ≡ neededNodes h (q .operation) (tagWord b h (q .l))
+  unfolding pick
+  needs-4 e = rw e refl
+
+  needs-5 : q .point ≡ 5 → neededAt b h q ≡ 0
+  unfolding pick
+  needs-5 e = rw e refl
+
 module _ (b : List ℕ) (h : Header) (n : ℕ) (q : Process) (known : Known b h n q) where
   abbrev row : Row
   row = rowOf b h n q
@@ -94,19 +104,11 @@ module _ (b : List ℕ) (h : Header) (n : ℕ) (q : Process) (known : Known b h 
   touch-inside : Inside h (placeOf touch)
   touch-inside = shared-inside (touchedNode touch) (touchedWord touch) shares
 
-  needs-4 : q .point ≡ 4 → neededAt b h q ≡ neededNodes h (q .operation) (tagWord b h (q .l))
-  unfolding pick
-  needs-4 e = rw e refl
-
-  needs-5 : q .point ≡ 5 → neededAt b h q ≡ 0
-  unfolding pick
-  needs-5 e = rw e refl
-
   room : drawsAt b h q row ≡ true → Room h (neededAt b h q)
   room d = room-is h (neededAt b h q) (both-2 _ _ d)
 
   room-4 : q .point ≡ 4 → drawsAt b h q row ≡ true → Room h (neededNodes h (q .operation) (tagWord b h (q .l)))
-  room-4 e d = rw (needs-4 e) at (room d)
+  room-4 e d = rw (needs-4 b h q e) at (room d)
 
   row-kept : (y : Place) → Inside h y → (placeOf touch ≡ y → ⊥) → (Beside b h n q row y → ⊥) → getD (row .block) (placeAt h y) 0 ≡ getD b (placeAt h y) 0
   unfolding pruneDrawn
@@ -213,7 +215,7 @@ module _ (b : List ℕ) (h : Header) (n : ℕ) (q : Process) (known : Known b h 
       go (by-replace p t u f e) =
           ap headerOf e
           ∙ replace-header b h (jobOf n q) (tagWord b h (q .l)) (room-4 p t) (u .from-one) (u .to-used) (known .long) is
-          ∙ ap (λ (m : ℕ). headerFrom (h .k) (h .processes) (h .nodes) (h .nodesused + m) (h .records) (newRecord h)) (sym (needs-4 p))
+          ∙ ap (λ (m : ℕ). headerFrom (h .k) (h .processes) (h .nodes) (h .nodesused + m) (h .records) (newRecord h)) (sym (needs-4 b h q p))
           ∙ sym (pick-true _ _ h t)
       go (by-prune p t u f e) =
           ap headerOf e
@@ -221,7 +223,7 @@ module _ (b : List ℕ) (h : Header) (n : ℕ) (q : Process) (known : Known b h 
           (omega (arith, known .limited))
           (known .long)
           is
-          ∙ ap (λ (m : ℕ). headerFrom (h .k) (h .processes) (h .nodes) (h .nodesused + m) (h .records) (newRecord h)) (sym (needs-5 p))
+          ∙ ap (λ (m : ℕ). headerFrom (h .k) (h .processes) (h .nodes) (h .nodesused + m) (h .records) (newRecord h)) (sym (needs-5 b h q p))
           ∙ sym (pick-true _ _ h t)
       go (by-none f e) = same (full-none _ _ f)
 

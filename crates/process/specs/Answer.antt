@@ -22,8 +22,11 @@ abbrev pub answer : ℕ → Answer
 answer n = getD (No ∷ Yes ∷ Full ∷ []) n No
 
 -- "adds 1 to steps (which stays at 4,294,967,295 once there)"
+abbrev pub mostSteps : ℕ
+mostSteps = 4294967295
+
 abbrev pub stepsUp : ℕ → ℕ
-stepsUp steps = pick (ltb steps 4294967295) (steps + 1) steps
+stepsUp steps = pick (ltb steps mostSteps) (steps + 1) steps
 
 -- "Short of one, a step says that it goes on."
 abbrev pub goingOn : Process → Stepped

@@ -29,6 +29,9 @@ pub const INSERT: u32 = 2;
 
 pub const DELETE: u32 = 3;
 
+// "which stays at 4,294,967,295 once there"
+const MOST_STEPS: u32 = 4294967295;
+
 // "Answers: 0 no, 1 yes, 2 full."
 pub enum Answer {
     No,
@@ -277,11 +280,11 @@ pub fn with_own(q: Process, own: u32) -> Process
     r
 }
 
-// One step more; it "stays at 4,294,967,295 once there".
+// "Each accepted step .. adds 1 to steps".
 pub fn steps_up(steps: u32) -> u32
     ensures { λ r. ⌜ r ≡ stepsUp steps ⌝ }
 {
-    if steps < 4294967295 { steps + 1 } else { steps }
+    if steps < MOST_STEPS { steps + 1 } else { steps }
 }
 
 pub fn goes_on(q: Process) -> Stepped

@@ -11,7 +11,7 @@ use borrow.Author.Tests.{lt-ltb, le-ltb, le-leb, leb-true, ltb-true, ltb-false, 
 use Rattle.tables.specs.Choice.{pick, both}
 use Rattle.tables.proofs.Picks.{both-1, both-2}
 use Rattle.script.specs.Text.{bytes, isDigit, inWord, front, behind, valueOf}
-use Rattle.script.specs.Reading.{Left, left, bad, expect, literal, ended, found, missing, most, numberIn, number, isWord, opOf, opIn, op, field, opBehind, atEnd}
+use Rattle.script.specs.Reading.{Left, left, bad, expect, literal, ended, found, missing, most, numberIn, number, opOf, opIn, op, field, opBehind, atEnd}
 use Rattle.script.specs.Reading.{makingFrom, makingWithK, startOf, stepsOf, listOf, firstOf, longest, lineOf}
 use Rattle.script.specs.Form.{All, none, also, Numeral, Word, InForm, making, making-without-k, start, steps, list}
 use Rattle.script.specs.declared.lines.Line.{Line}
@@ -151,14 +151,6 @@ unfolding ended
 ended-nothing (left []) e = refl
 ended-nothing (left (x ∷ l)) e = cc
 ended-nothing bad e = cc
-
--- the words of operations are told apart as lists of bytes
-pub word-is : (w l : List ℕ) → isWord w l ≡ true → l ≡ w
-word-is w l e = expect-found w l [] (ended-nothing (expect w l) e) ∙ append-nil w
-
-pub word-same : (w : List ℕ) → isWord w w ≡ true
-unfolding ended
-word-same w = subst (λ (l : List ℕ). isWord w l ≡ true) (append-nil w) (rw (expect-there w []))
 
 at-end-found : (o : Left) (x y : Line) → atEnd o x ≡ y → (y ≡ Line.NotInForm → ⊥) → (o ≡ left []) × (x ≡ y)
 unfolding pick

@@ -1,6 +1,6 @@
 -- There and back: reading gives back what was written, and every line that is printed fits a buffer of 128 bytes.
 use Prim.Native.Nat.{ℕ, zero, suc, _+_, _-_, _≤_, _<_}
-use mathlib.Core.Path.{_≡_, refl, sym, ap, subst, _∙_}
+use mathlib.Core.Path.{_≡_, refl, sym, ap, _∙_}
 use mathlib.Core.Bool.{Bool, true, false}
 use mathlib.Core.List.{List, [], _∷_, _++_, append-assoc}
 use native.Mathlib.Omega.{arith}
@@ -106,7 +106,7 @@ module _ (b e t : List ℕ) (at r : ℕ) (w : out r e ≡ written b at t) (room 
       (take-at t (drop (at + length t) b) (at + length t - at) (omega arith))
 
 -- the place behind what was written lies within the buffer, whatever its room
-place-within : (b : List ℕ) (at : ℕ) (t : List ℕ) → at ≤ length b → (written b at t) .at ≤ length b
+pub place-within : (b : List ℕ) (at : ℕ) (t : List ℕ) → at ≤ length b → (written b at t) .at ≤ length b
 unfolding written pick
 place-within b at [] p = p
 place-within b at (x ∷ t) p =
@@ -115,9 +115,6 @@ place-within b at (x ∷ t) p =
     go : (u : Bool) → ltb at (length b) ≡ u → (at < length b → (written (set b at x) (at + 1) t) .at ≤ length b) → (pick u (written (set b at x) (at + 1) t) (out at b)) .at ≤ length b
     go true e r = r (ltb-true at (length b) e)
     go false e r = p
-
-pub written-within : (b e t : List ℕ) (at r : ℕ) → out r e ≡ written b at t → at ≤ length b → r ≤ length b
-written-within b e t at r w p = subst (λ (o : Out). o .at ≤ length b) (sym w) (place-within b at t p)
 
 -- ---- reading what was written
 

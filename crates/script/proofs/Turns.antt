@@ -4,12 +4,11 @@ use mathlib.Core.Path.{_≡_, refl, sym, _∙_}
 use mathlib.Core.Bool.{Bool, true, false}
 use mathlib.Core.List.{List, [], _∷_}
 use native.Mathlib.Omega.{arith}
-use native.Mathlib.Numerals.{add-one}
 use lib.Dec.{leb, leb·zero, leb·suc-zero, leb·suc-suc}
 use lib.ListN.{length, getD, take, drop, drop-of-length-le}
-use lib.Seq.{drop-cons}
 use borrow.Author.Tests.{lt-ltb, le-ltb, le-leb, lt-leb, eq-eqb, ne-eqb}
 use Rattle.tables.specs.Choice.{pick, both}
+use Rattle.tables.proofs.Lists.{from-here}
 use Rattle.script.specs.Text.{bytes, isDigit, inWord, front, valueFrom, valueOf}
 use Rattle.script.specs.Reading.{Left, left, bad, expect, ended, most, literal, field, numberIn, isWord, opOf, opIn, opBehind, makingFrom, makingWithK, startOf, stepsOf, listOf, firstOf, longest, lineOf}
 use Rattle.script.specs.Position.{leftAt, foundAt, belongsTo, valueIn}
@@ -22,10 +21,6 @@ use Rattle.script.specs.declared.read.Kind.{Kind}
 use Rattle.script.specs.declared.read.Value.{Value}
 use Rattle.script.specs.declared.read.Value.the-variants.{Fits, TooBig}
 use Rattle.script.proofs.Runs.{value-grows, run-behind, run-front, run-some, run-none, run-within}
-
--- what is left of a list from an index on
-from-here : (l : List ℕ) (i : ℕ) → i < length l → drop i l ≡ getD l i 0 ∷ drop (i + 1) l
-from-here l i p = rw add-one (drop-cons l i 0 p)
 
 module _ (line word : List ℕ) (s : Left) (i j : ℕ) (inv : s ≡ expect (drop j word) (drop i line)) where
   pub literal-short : j < length word → length line ≤ i → bad ≡ s

@@ -259,7 +259,7 @@ pub fn act(block: &mut [u32], list: &mut [u32], s: Session, line: Line) -> Turn
     }
 }
 
-// The run has ended.
+// Nothing more is read: a refusal "in the first line .. ends the run", and so does the end of the input.
 pub fn is_over(s: Session) -> bool
     ensures { λ r. ⌜ r ≡ isOver (s .stage) ⌝ }
 {

@@ -1,5 +1,4 @@
--- Listing and range at every moment: the walk over a block is the walk of the history, so its keys are the set.
+-- Listing and range on sound tables: the walk over a block is the walk of the history, so its keys are the set.
 pub mod Rows
 pub mod Walks
 pub mod Calls
-pub mod Clauses

@@ -1,1 +1,1 @@
-// What listing and range answer at every moment of a list of events stands in proofs/; there is no code here.
+// What listing and range answer on sound tables stands in proofs/; there is no code here.

@@ -8,13 +8,13 @@ use native.Mathlib.Numerals.{add-one}
 use lib.Dec.{ltb, eqb, leb·suc-suc}
 use borrow.Author.Tests.{ltb-true, ltb-false, eqb-true, eqb-false, lt-ltb, le-ltb, eq-eqb, ne-eqb}
 use lib.ListN.{length, getD, set, take, drop, replicate, List·getD-append, List·getD-eq-default, drop-of-length-le}
-use lib.Seq.{drop-cons, getD-drop, getD-take, getD-at, getD-append-add, length-take-le}
+use lib.Seq.{getD-drop, getD-take, getD-at, getD-append-add, length-take-le}
 use Rattle.tables.specs.Choice.{pick, both, listed}
 use Rattle.tables.specs.Numbers.{infinity, keyRoom}
 use Rattle.tables.specs.Layout.{keyWord}
 use Rattle.tables.specs.Keys.{keysOf, rises, holds, firstAt, greaterAt, equalAt, routeOf, putIn, takenOut, putInWord, takenOutWord, keyArray, sproutLeaf}
 use Rattle.tables.specs.declared.header.Header.{Header}
-use Rattle.tables.proofs.Lists.{length-listed, getD-listed, getD-listed₀, filled-more, filled-all}
+use Rattle.tables.proofs.Lists.{from-here, length-listed, getD-listed, getD-listed₀, filled-more, filled-all}
 
 module _ (b : List ℕ) (h : Header) (node count : ℕ) where
   pub keys-length : length (keysOf b h node count) ≡ count
@@ -28,13 +28,9 @@ module _ (b : List ℕ) (h : Header) (node count : ℕ) where
 
 pub ruleset keyed = (keys-at, keys-past)
 
--- what is left of a list from i on, where i lies in it
-left : (ks : List ℕ) (i : ℕ) → i < length ks → drop i ks ≡ getD ks i 0 ∷ drop (i + 1) ks
-left ks i p = rw (add-one i) (drop-cons ks i 0 p)
-
 rises-left : (ks : List ℕ) (i : ℕ) → i < length ks → rises (drop i ks) ≡ both (ltb (getD ks i 0) (getD ks (i + 1) infinity)) (rises (drop (i + 1) ks))
 unfolding rises
-rises-left ks i p = ap rises (left ks i p) ∙ ap (λ (x : ℕ). both (ltb (getD ks i 0) x) (rises (drop (i + 1) ks))) (getD-drop (i + 1) ks 0 infinity ∙ ap (λ (j : ℕ). getD ks j infinity) (let z : i + 1 + 0 ≡ i + 1 = omega arith in z))
+rises-left ks i p = ap rises (from-here ks i p) ∙ ap (λ (x : ℕ). both (ltb (getD ks i 0) x) (rises (drop (i + 1) ks))) (getD-drop (i + 1) ks 0 infinity ∙ ap (λ (j : ℕ). getD ks j infinity) (let z : i + 1 + 0 ≡ i + 1 = omega arith in z))
 
 -- the loop over a list ks of n keys, that has passed i of them
 module _ (ks : List ℕ) (n : ℕ) (size : length ks ≡ n) (i : ℕ) where
@@ -54,11 +50,11 @@ module _ (ks : List ℕ) (n : ℕ) (size : length ks ≡ n) (i : ℕ) where
   module _ (test : ℕ → Bool) (inv : firstAt test ks ≡ i + firstAt test (drop i ks)) where
     pub first-here : (key : ℕ) → key ≡ getD ks i 0 → test key ≡ true → i < n → i ≡ firstAt test ks
     unfolding firstAt pick
-    first-here key e t p = sym (inv ∙ rw (left ks i (omega arith), ← e, t) (let z : i + 0 ≡ i = omega arith in z))
+    first-here key e t p = sym (inv ∙ rw (from-here ks i (omega arith), ← e, t) (let z : i + 0 ≡ i = omega arith in z))
 
     pub first-again : (key : ℕ) → key ≡ getD ks i 0 → test key ≡ false → i < n → firstAt test ks ≡ i + 1 + firstAt test (drop (i + 1) ks)
     unfolding firstAt pick
-    first-again key e t p = inv ∙ rw (left ks i (omega arith), ← e, t) (let z : (m : ℕ) → i + (m + 1) ≡ i + 1 + m = λ m. omega arith in z _)
+    first-again key e t p = inv ∙ rw (from-here ks i (omega arith), ← e, t) (let z : (m : ℕ) → i + (m + 1) ≡ i + 1 + m = λ m. omega arith in z _)
 
     pub first-none : n ≤ i → i ≡ firstAt test ks
     unfolding firstAt

@@ -1,11 +1,11 @@
 -- What a good header says of its numbers, and the header's reading, return by return.
 use Prim.Native.Nat.{ℕ, _+_, _*_, _-_, _/_, _≤_, _<_}
-use mathlib.Core.Path.{_≡_, refl, sym, ap, subst, _∙_}
+use mathlib.Core.Path.{_≡_, refl, sym, ap, _∙_}
 use mathlib.Core.Bool.{Bool, true, false, not}
 use mathlib.Core.List.{List}
 use native.Mathlib.Omega.{arith}
 use native.Mathlib.Nat.{div-zero, zero-div}
-use borrow.Author.Tests.{leb-true, ltb-false, not-false, lt-ltb, le-ltb}
+use borrow.Author.Tests.{leb-true, not-false, lt-ltb, le-ltb}
 use mir.Val.{Fits}
 use mir.Syntax.{w8, w16}
 use lib.Dec.{leb, ltb}
@@ -170,11 +170,6 @@ read-header b h e = block-tests b h e .3
 
 pub read-limits : (b : List ℕ) (h : Header) → headerRead b ≡ Good h → headerGood h ≡ true
 read-limits b h e = ap headerGood (sym (read-header b h e)) ∙ not-false (headerGood (headerOf b)) (block-tests b h e .1)
-
-pub read-room : (b : List ℕ) (h : Header) → headerRead b ≡ Good h → blockWords h ≤ length b
-read-room b h e =
-    let z : blockWords (headerOf b) ≤ length b = ltb-false (length b) (blockWords (headerOf b)) (block-tests b h e .2) in
-    subst (λ (g : Header). blockWords g ≤ length b) (read-header b h e) z
 
 module _ {A : Type 0} (say : Refusal → A) (accepting : A) (b : List ℕ) where
   refused-on : (t u v : Bool) (g : Header) (e : Refusal) → pick t (headerRefused 2) (pick u (headerRefused 3) (pick v (headerRefused 2) (Good g))) ≡ Refused e →

@@ -7,7 +7,7 @@ use native.Mathlib.Numerals.{add-one}
 use native.Mathlib.Nat.{not-suc-le-zero, le-of-suc-le-suc, add-zero, sub-eq-zero-of-le}
 use lib.ListN.{length, getD, set, take, drop, replicate, length-replicate, List·getD-eq-default, drop-of-length-le}
 use borrow.Author.Fill.{fill-more}
-use lib.Seq.{sets, set-out, take-all}
+use lib.Seq.{sets, set-out, take-all, drop-cons}
 use Rattle.tables.specs.Choice.{listed}
 use Rattle.tables.specs.Fresh.{overFront}
 
@@ -18,6 +18,10 @@ pub set-past : (b : List ℕ) (i v : ℕ) → length b ≤ i → b ≡ set b i v
 set-past b i v p = sym (set-out b i v p)
 
 pub ruleset past = (get-past, set-past)
+
+-- what is left of a list from i on, where i lies in it
+pub from-here : (l : List ℕ) (i : ℕ) → i < length l → drop i l ≡ getD l i 0 ∷ drop (i + 1) l
+from-here l i p = rw (add-one i) (drop-cons l i 0 p)
 
 moved : (i j : ℕ) → i + 1 + j ≡ i + suc j
 moved i j = omega arith
@@ -61,7 +65,7 @@ pub filled-all : {A : Type 0} (ws z o : List A) (i : ℕ) → o ≡ take i ws ++
 filled-all ws z o i e n p = e ∙ rw (take-all i ws p, drop-of-length-le z {i = i} (rw n p)) (append-nil ws)
 
 -- a loop that stores f 0, f 1, .. from base on, turn by turn
-left-over : (n o : ℕ) → o < n → n - o ≡ suc (n - (o + 1))
+pub left-over : (n o : ℕ) → o < n → n - o ≡ suc (n - (o + 1))
 left-over n o p = omega arith
 
 pub sets-again : (f : ℕ → ℕ) (b₀ b c : List ℕ) (base o n a w : ℕ) → sets b₀ (base + 0) (listed f 0 n) ≡ sets b (base + o) (listed f o (n - o)) → o < n →

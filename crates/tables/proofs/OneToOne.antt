@@ -11,19 +11,7 @@ use Rattle.tables.specs.Choice.{pick, both, within, listed, Reason, deci
 use Rattle.tables.specs.Refusal.{numberOf, refusals, refusal}
 use Rattle.tables.specs.Pending.{wordOf, pendingOfKind, pendingOf}
 use Rattle.tables.specs.declared.numbers.Refusal.{Refusal}
-use Rattle.tables.specs.declared.numbers.Refusal.the-variants.{
-  MakingNumber,
-  TooShort,
-  Damaged,
-  NoSuchProcess,
-  UnknownOperation,
-  InfinityGiven,
-  Busy,
-  Idle,
-  ListTooShort,
-  LowAboveHigh,
-  NotInForm,
-}
+use Rattle.tables.specs.declared.numbers.Refusal.the-variants.{MakingNumber, TooShort, Damaged, NoSuchProcess, UnknownOperation, InfinityGiven, Busy, Idle, ListTooShort, LowAboveHigh, NotInForm}
 use Rattle.tables.specs.declared.pending.Pending.{Pending}
 use Rattle.tables.specs.declared.pending.Pending.the-variants.{Clean, Replace, Prune, Mark}
 use Rattle.tables.specs.Header.{headerOf, blockReasons, headerRead}

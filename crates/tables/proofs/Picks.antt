@@ -16,6 +16,29 @@ unfolding both
 both-2 true b e = e
 both-2 false b e = absurd (subst (λ (t : Bool). T t) (sym e) tt)
 
+pub both-true : (s : Bool) → both s true ≡ s
+unfolding both
+both-true true = refl
+both-true false = refl
+
+pub both-false : (s : Bool) → both s false ≡ false
+unfolding both
+both-false true = refl
+both-false false = refl
+
+pub false-both : (s : Bool) → both false s ≡ false
+unfolding both
+false-both s = refl
+
+pub both-is : {s t : Bool} → s ≡ true → t ≡ true → both s t ≡ true
+unfolding both
+both-is {s} {t} e f = rw (e, f) refl
+
+pub both-assoc : (r s t : Bool) → both (both r s) t ≡ both r (both s t)
+unfolding both
+both-assoc true s t = refl
+both-assoc false s t = refl
+
 -- two tests that are known, put together
 pub both-of : (s t x y u : Bool) → u ≡ both s t → s ≡ x → t ≡ y → u ≡ both x y
 both-of s t x y u e f g = e ∙ rw (f, g) refl

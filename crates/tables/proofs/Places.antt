@@ -68,6 +68,28 @@ header-record i r f e = let z : _≡_ {A = ℕ} 0 2 = ap areaOf e in omega arith
 pub node-record : (n o r f : ℕ) → inNode n o ≡ inRecord r f → ⊥
 node-record n o r f e = let z : _≡_ {A = ℕ} 1 2 = ap areaOf e in omega arith
 
+pub header-stack : (i q d : ℕ) → inHeader i ≡ inStack q d → ⊥
+header-stack i q d e = let z : _≡_ {A = ℕ} 0 3 = ap areaOf e in omega arith
+
+pub node-stack : (n o q d : ℕ) → inNode n o ≡ inStack q d → ⊥
+node-stack n o q d e = let z : _≡_ {A = ℕ} 1 3 = ap areaOf e in omega arith
+
+pub record-stack : (r f q d : ℕ) → inRecord r f ≡ inStack q d → ⊥
+record-stack r f q d e = let z : _≡_ {A = ℕ} 2 3 = ap areaOf e in omega arith
+
+-- places of one area: the same row and word
+pub header-word : (i j : ℕ) → inHeader i ≡ inHeader j → i ≡ j
+header-word i j e = cc
+
+pub node-word : (n o m u : ℕ) → inNode n o ≡ inNode m u → (m ≡ n) × (u ≡ o)
+node-word n o m u e = (cc, cc)
+
+pub record-row : (r f s g : ℕ) → inRecord r f ≡ inRecord s g → r ≡ s
+record-row r f s g e = cc
+
+pub stack-word : (q d p e : ℕ) → inStack q d ≡ inStack p e → (p ≡ q) × (e ≡ d)
+stack-word q d p e z = (cc, cc)
+
 abbrev rowOf : Place → ℕ
 rowOf (inHeader i) = 1
 rowOf (inNode n o) = n

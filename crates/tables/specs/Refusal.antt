@@ -3,19 +3,7 @@ use Prim.Native.Nat.{ℕ, _-_}
 use mathlib.Core.List.{List, [], _∷_}
 use lib.ListN.{getD}
 use Rattle.tables.specs.declared.numbers.Refusal.{Refusal}
-use Rattle.tables.specs.declared.numbers.Refusal.the-variants.{
-  MakingNumber,
-  TooShort,
-  Damaged,
-  NoSuchProcess,
-  UnknownOperation,
-  InfinityGiven,
-  Busy,
-  Idle,
-  ListTooShort,
-  LowAboveHigh,
-  NotInForm,
-}
+use Rattle.tables.specs.declared.numbers.Refusal.the-variants.{MakingNumber, TooShort, Damaged, NoSuchProcess, UnknownOperation, InfinityGiven, Busy, Idle, ListTooShort, LowAboveHigh, NotInForm}
 
 -- the number of each refusal
 abbrev pub numberOf : Refusal → ℕ

@@ -16,13 +16,14 @@ use Rattle.tables.specs.declared.node.Kin.{Kin}
 use Rattle.tables.specs.declared.node.Kin.the-variants.{Leaf, Internal}
 use Rattle.tables.specs.declared.node.Child.{Child}
 use Rattle.tables.specs.declared.node.Child.the-variants.{Node, Damaged}
+use Rattle.tables.proofs.Picks.{both-true, both-false, both-assoc}
 use Rattle.tables.proofs.Keyed.{keys-length}
 use Rattle.walk.specs.Walk.{Walk, begin, damaged, leafMet, metFrom, walked}
 use Rattle.walk.specs.Calls.{anyWithin}
 use Rattle.walk.specs.Passes.{Roomy, measureOf, measured, spentMeter, damagedMeter, spentFilling, Measured, Filled}
 use Rattle.walk.specs.declared.meter.Meter.{Meter}
 use Rattle.walk.specs.declared.fill.Filling.{Filling}
-use Rattle.walk.proofs.Walks.{both-false, both-true, both-assoc, after, children, met-leaf, met-internal, met-damaged, met-none, child-more, child-none}
+use Rattle.walk.proofs.Walks.{after, children, met-leaf, met-internal, met-damaged, met-none, child-more, child-none}
 
 -- either, and the keys in a range, over what is met in two parts
 either-none : (s : Bool) → either s false ≡ s

@@ -13,22 +13,8 @@ use Rattle.tables.specs.declared.header.Header.{Header}
 use Rattle.tables.specs.declared.node.Kin.the-variants.{Leaf, Internal}
 use Rattle.tables.specs.declared.node.Child.{Child}
 use Rattle.tables.specs.declared.node.Child.the-variants.{Node, Damaged}
+use Rattle.tables.proofs.Picks.{both-true, both-false, both-assoc}
 use Rattle.walk.specs.Walk.{Walk, walk, begin, spent, damaged, leafMet, inOrder, nodeMet, walkOf, metFrom}
-
-pub both-false : (s : Bool) → both s false ≡ false
-unfolding both
-both-false true = refl
-both-false false = refl
-
-pub both-true : (s : Bool) → both s true ≡ s
-unfolding both
-both-true true = refl
-both-true false = refl
-
-pub both-assoc : (r s t : Bool) → both (both r s) t ≡ both r (both s t)
-unfolding both
-both-assoc true s t = refl
-both-assoc false s t = refl
 
 -- a walk seen behind what another has met
 abbrev pub after : Walk → Walk → Walk

@@ -1,3 +1,4 @@
+-- The proof that `run` keeps its contract.
 use borrow.Author.Needs.{needs}
 use Prim.Native.Nat.{_-_}
 use mathlib.Core.Path.{_≡_}

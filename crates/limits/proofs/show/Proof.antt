@@ -1,3 +1,4 @@
+-- The proof that `show` keeps its contract.
 use borrow.Author.Needs.{needs}
 use Rattle.session.proofs.Written.{part-count}
 use Rattle.limits.proofs.show.Statement.{statement}
