@@ -53,7 +53,7 @@ play() { # the round in functions, olds and news
     rm -rf "$room/crates/$crate/src" && cp -r "$top/crates/$crate/src" "$room/crates/$crate/src"
 }
 
-short() { sed -E 's/\\n */ /g; s/^ +//; s/\|/\\|/g' <<< "$1"; }
+short() { printf '%b' "$1" | tr '\n' ' ' | sed -E 's/ +/ /g; s/^ //; s/\|/\\|/g'; }
 
 end_round() { [ ${#functions[@]} = 0 ] || case " ${wanted:-${functions[0]%%::*}} " in *" ${functions[0]%%::*} "*) play ;; esac; functions=() olds=() news=(); }
 
