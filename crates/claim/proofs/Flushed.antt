@@ -19,6 +19,7 @@ use Rattle.link.specs.Events.{Event, start, step, State, taken, eventAt, stateA
 use Rattle.link.specs.Swaps.{Swapping, seven, thirteen, ChildSwap}
 use Rattle.link.specs.Operations.{Started, OperationOf}
 use Rattle.link.specs.Sets.{InSet}
+use Rattle.link.proofs.Reached.{step-one}
 use Rattle.claim.proofs.Operations.{start-same}
 use Rattle.claim.specs.Claim.{Claim, Changes, put-in, taken-out, SwapOf, Listing, Range, clear, met}
 use Rattle.claim.specs.Flushed.{TakenOut, Flushed}
@@ -42,18 +43,15 @@ module _ (s : State) (es : List Event) where
   swap? : (m : ℕ) → ((r : ℕ) × ChildSwap s es m r) ⊎ ((r : ℕ) → ¬ ChildSwap s es m r)
   swap? m = go (eventAt es m) refl
     where
-      same : (n p : ℕ) → step n ≡ step p → n ≡ p
-      same n p e = cc
-
       by : (n : ℕ) → eventAt es m ≡ step n → Dec (1 ≤ n) → Dec (n ≤ headerAt s es m .processes) → Dec (taken (stateAt s es m) n .operation ≡ 0)
           → Dec (Swapping (blockAt s es m) (headerAt s es m) (taken (stateAt s es m) n)) → ((r : ℕ) × ChildSwap s es m r) ⊎ ((r : ℕ) → ¬ ChildSwap s es m r)
       by n e (yes a) (yes c) (no d) (yes w) =
           inl (taken (stateAt s es m) n .helped, record { process = n; event = e; exists = record { low = a; high = c }; busy = d; helps = refl; swapping = w })
-      by n e (no a) c d w = inr (λ r x. a (subst (λ (p : ℕ). 1 ≤ p) (same (x .process) n (sym (x .event) ∙ e)) (x .exists .low)))
-      by n e (yes a) (no c) d w = inr (λ r x. c (subst (λ (p : ℕ). p ≤ headerAt s es m .processes) (same (x .process) n (sym (x .event) ∙ e)) (x .exists .high)))
-      by n e (yes a) (yes c) (yes d) w = inr (λ r x. x .busy (subst (λ (p : ℕ). taken (stateAt s es m) p .operation ≡ 0) (sym (same (x .process) n (sym (x .event) ∙ e))) d))
+      by n e (no a) c d w = inr (λ r x. a (subst (λ (p : ℕ). 1 ≤ p) (step-one (x .process) n (sym (x .event) ∙ e)) (x .exists .low)))
+      by n e (yes a) (no c) d w = inr (λ r x. c (subst (λ (p : ℕ). p ≤ headerAt s es m .processes) (step-one (x .process) n (sym (x .event) ∙ e)) (x .exists .high)))
+      by n e (yes a) (yes c) (yes d) w = inr (λ r x. x .busy (subst (λ (p : ℕ). taken (stateAt s es m) p .operation ≡ 0) (sym (step-one (x .process) n (sym (x .event) ∙ e))) d))
       by n e (yes a) (yes c) (no d) (no w) =
-          inr (λ r x. w (subst (λ (p : ℕ). Swapping (blockAt s es m) (headerAt s es m) (taken (stateAt s es m) p)) (same (x .process) n (sym (x .event) ∙ e)) (x .swapping)))
+          inr (λ r x. w (subst (λ (p : ℕ). Swapping (blockAt s es m) (headerAt s es m) (taken (stateAt s es m) p)) (step-one (x .process) n (sym (x .event) ∙ e)) (x .swapping)))
 
       go : (e : Event) → eventAt es m ≡ e → ((r : ℕ) × ChildSwap s es m r) ⊎ ((r : ℕ) → ¬ ChildSwap s es m r)
       go (start n o x) e = inr (λ r w. let z : start n o x ≡ step (w .process) = sym e ∙ w .event in let v : _≡_ {A = ℕ} 0 1 = cc in omega arith)

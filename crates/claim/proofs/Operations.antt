@@ -7,9 +7,9 @@ use mathlib.Core.List.{List}
 use native.Mathlib.Omega.{arith}
 use native.Mathlib.Decide.{ℕ-discrete, decLt}
 use lib.Dec.{eqb}
-use borrow.Author.Tests.{eqb-true, eq-eqb}
+use borrow.Author.Tests.{eqb-true}
 use Rattle.tables.specs.Choice.{pick}
-use Rattle.tables.proofs.Picks.{both-1, both-2, both-is}
+use Rattle.tables.proofs.Picks.{both-1, both-2}
 use Rattle.process.specs.declared.Process.{Process}
 use Rattle.process.specs.declared.Answer.{Answer}
 use Rattle.process.specs.declared.StepAnswer.the-variants.{GoesOn, Ended}
@@ -24,7 +24,7 @@ use Rattle.history.specs.View.{In}
 use Rattle.history.specs.Shared.{Desc, Shared, Stands, stands-replace, stands-prune}
 use Rattle.history.specs.Change.{draw-replace, draw-prune, swap-replace, unflag-replace, mark, swap-prune, unflag-prune}
 use Rattle.history.specs.Run.{Step, changes, rests}
-use Rattle.link.specs.Events.{Event, start, step, State, taken, startIn, stepIn, eventAt, stateAt, blockAt, headerAt, isAccepted, starts, isAnswered, steppedBy, sinceAt}
+use Rattle.link.specs.Events.{Event, start, step, State, taken, startIn, stepIn, eventAt, stateAt, blockAt, headerAt, isAccepted, starts, sinceAt}
 use Rattle.link.specs.Operations.{Started, BusyWith, Draws, OperationOf, Answered}
 use Rattle.link.proofs.Moments.{tables, Follows, already, afterwards, answers}
 use Rattle.link.proofs.Reached.{step-one, taken-own, taken-other, state-is}
@@ -32,7 +32,7 @@ use Rattle.link.proofs.Stepping.{turn}
 use Rattle.link.proofs.Outcomes.{Outcome, nothing, begun, moved, outcome}
 use Rattle.link.proofs.Clauses.{Reached, good, step-at, grows, processes-at}
 use Rattle.link.proofs.Story.{Story, story}
-use Rattle.link.proofs.Answers.{Drawn}
+use Rattle.link.proofs.Answers.{answer-steps, Drawn}
 use Rattle.link.proofs.Origins.{comes}
 use Rattle.link.proofs.Owners.{owned}
 
@@ -215,10 +215,7 @@ module _ {s : State} {es : List Event} (reached : Reached s es) where
   answer-idles m n a c x = go (outcome (good reached m))
     where
       go : Outcome s es m → taken (W (suc m)) n .operation ≡ 0
-      go (nothing e f g) = absurd (let v : true ≡ false = sym mine ∙ g n in let z : _≡_ {A = ℕ} 0 1 = cc in omega arith)
-        where
-          mine : steppedBy (W m) (eventAt es m) n ≡ true
-          mine = ap (λ (e : Event). steppedBy (W m) e n) (x .event) ∙ both-is (eq-eqb n n refl) (ap isAnswered (x .answer))
+      go (nothing e f g) = absurd (let v : true ≡ false = sym (answer-steps x) ∙ g n in let z : _≡_ {A = ℕ} 0 1 = cc in omega arith)
       go (begun p o y u z v w f f′ g) = absurd (let d : start p o y ≡ step n = sym v ∙ x .event in let z : _≡_ {A = ℕ} 0 1 = cc in omega arith)
       go (moved p u z y e f g g′) = subst (λ (q : ℕ). taken (W (suc m)) q .operation ≡ 0) same (by (turn (good reached m .now) (taken (W m) p) y .follows))
         where

@@ -19,7 +19,7 @@ use Rattle.tables.specs.Keys.{keyArray, sproutLeaf}
 use Rattle.tables.specs.Pending.{replaceKind}
 use Rattle.tables.specs.declared.header.Header.{Header}
 use Rattle.tables.proofs.Picks.{both-1, both-2, pick-true}
-use Rattle.tables.proofs.Lists.{length-listed, getD-listed₀}
+use Rattle.tables.proofs.Lists.{moved, length-listed, getD-listed₀}
 use Rattle.tables.proofs.Places.{header-node, header-record, node-record, header-word, node-word, read-same, read-other, node-same, node-other, record-same, record-other}
 use Rattle.draws.specs.declared.Job.{Job}
 use Rattle.draws.specs.Draw.{newNode, newRecord, roomFor, sprouts, neededNodes, newKeys, newCount, leafDrawn, largest, leavesFrom, sproutLeaves, sproutDrawn, nodesDrawn, recordImage, recordDrawn, committed, replaceDrawn}
@@ -130,9 +130,6 @@ module _ (h : Header) where
   leaves-other (ks ∷ ls) b first low high y q d =
       leaves-other ls (withNode b h first (leafOf ks)) (first + 1) (omega arith) (omega arith) y q (λ i o p e. d (suc i) o (omega arith) (rw (moved first i) at e))
       ∙ node-other h b (leafOf ks) first (leaf-length ks) low (omega arith) y q (λ o e. d 0 o (omega arith) (rw (add-zero first) e))
-    where
-      moved : (n i : ℕ) → n + 1 + i ≡ n + suc i
-      moved n i = omega arith
 
   pub leaves-same : (ls : List (List ℕ)) (b : List ℕ) (first i o : ℕ) → 1 ≤ first → first + length ls ≤ suc (h .nodes) → blockWords h ≤ length b → i < length ls →
       o < nodeWords (h .k) → nodeWord (leavesFrom b h first ls) h (first + i) o ≡ getD (leafOf (getD ls i [])) o 0

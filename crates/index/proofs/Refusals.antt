@@ -15,7 +15,7 @@ use Rattle.tables.specs.Fresh.{freshHeader, freshBlock, freshRow, overFront}
 use Rattle.tables.specs.declared.numbers.Refusal.{Refusal}
 use Rattle.tables.specs.declared.fresh.Made.the-variants as made
 use Rattle.tables.proofs.Picks.{within-low, within-high}
-use Rattle.tables.proofs.OneToOne.{none-accepts, call-leaves, call-exactly}
+use Rattle.tables.proofs.OneToOne.{one-made, not-done, none-accepts, call-leaves, call-exactly}
 use Rattle.process.specs.Process.{idle, startedAs}
 use Rattle.process.specs.declared.Process.{Process}
 use Rattle.process.specs.declared.StepAnswer.the-variants as steps
@@ -26,12 +26,6 @@ use Rattle.points.specs.declared.start.StartAnswer.the-variants as starts
 use Rattle.points.proofs.Counted.{never-refused}
 use Rattle.points.proofs.Refusals.{one-step, one-start, not-accepted}
 use Rattle.index.specs.Calls.{recordOf, withRecord, makeReasons, MakeOut, makeOut, makeCall, StartOut, startOut, startCall, StepOut, stepOut, stepBy, stepCall}
-
-one-made : (d e : Refusal) → made.Refused d ≡ made.Refused e → d ≡ e
-one-made d e f = cc
-
-not-done : (e : Refusal) → made.Done ≡ made.Refused e → ⊥
-not-done e f = let z : _≡_ {A = ℕ} 0 1 = cc in omega arith
 
 module _ (b : List ℕ) (row : List Process) (k p n r : ℕ) where
   module _ (e : Refusal) where

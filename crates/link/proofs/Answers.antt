@@ -62,6 +62,10 @@ pub record Behind (s : State) (es : List Event) (m n : ℕ) : Type 0 where
 ended-one : (a c : Answer) (x y : ℕ) → Ended a x ≡ Ended c y → (a ≡ c) × (x ≡ y)
 ended-one a c x y e = (cc, cc)
 
+-- an answer is told by an accepted step of its process
+pub answer-steps : {s : State} {es : List Event} {m n : ℕ} {a : Answer} {c : ℕ} → Answered s es m n a c → steppedBy (stateAt s es m) (eventAt es m) n ≡ true
+answer-steps {s} {es} {m} {n} x = ap (λ (e : Event). steppedBy (stateAt s es m) e n) (x .event) ∙ both-is (eq-eqb n n refl) (ap isAnswered (x .answer))
+
 module _ {s : State} {es : List Event} (reached : Reached s es) where
   abbrev W : ℕ → State
   W = stateAt s es
@@ -123,10 +127,7 @@ module _ {s : State} {es : List Event} (reached : Reached s es) where
     -- this step among them
     pub steps-all : c ≡ capped (stepsAt s es n (suc m))
     unfolding pick
-    steps-all = steps-counted ∙ ap capped (sym (steps-next s es m n false true (ap (λ (e : Event). starts (W m) e n) (answered .event)) mine))
-      where
-        mine : steppedBy (W m) (eventAt es m) n ≡ true
-        mine = ap (λ (e : Event). steppedBy (W m) e n) (answered .event) ∙ both-is (eq-eqb n n refl) (ap isAnswered (answered .answer))
+    steps-all = steps-counted ∙ ap capped (sym (steps-next s es m n false true (ap (λ (e : Event). starts (W m) e n) (answered .event)) (answer-steps answered)))
 
     -- 5. A find, and an insert or delete answered no, agree with the set at some moment from start to answer.
     pub find-yes : q .operation ≡ 1 → a ≡ Yes → Moment i m (λ t. Holds k (S t .view) (q .key))

@@ -102,14 +102,11 @@ module _ {b : List ℕ} {h : Header} (fit : Fit h b) (I : Sound (h .k) (tablesOf
   k-low : 1 ≤ h .k
   k-low = omega (arith, fit .limits .numbers .k-low)
 
-  leaf-tag : tagWord b h (recordWord b h r lField) < h .k
-  leaf-tag = omega (arith, I .inv .shape .tags (recordWord b h r lField) l-used, I .inv .good r i .leaf)
-    where
-      l-used : In (h .nodesused) (recordWord b h r lField)
-      l-used = omega (arith, I .inv .good r i .above, I .inv .good r i .used)
-
   l-used : In (h .nodesused) (recordWord b h r lField)
   l-used = omega (arith, I .inv .good r i .above, I .inv .good r i .used)
+
+  leaf-tag : tagWord b h (recordWord b h r lField) < h .k
+  leaf-tag = omega (arith, I .inv .shape .tags (recordWord b h r lField) l-used, I .inv .good r i .leaf)
 
   owner-good : (2 ≤ recordWord b h r operationField) × (recordWord b h r operationField ≤ 3) → ownerGood b h r ≡ true
   unfolding infinity

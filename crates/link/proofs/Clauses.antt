@@ -33,7 +33,7 @@ use Rattle.link.specs.Swaps.{ChildSwap}
 use Rattle.link.proofs.Moments.{tables, Why, Follows, already, afterwards, answers, k-low}
 use Rattle.link.proofs.Stepping.{turn, step-sound}
 use Rattle.link.proofs.Calls as calls
-use Rattle.link.proofs.Reached.{Good, at-work, Kind, no-swap, swap-of, move, good-always}
+use Rattle.link.proofs.Reached.{Good, at-work, step-one, Kind, no-swap, swap-of, move, good-always}
 use Rattle.link.proofs.Beginning.{Rested, good-rest}
 
 -- the step from moment m, with the k of the whole run
@@ -158,13 +158,10 @@ module _ {s : State} {es : List Event} (reached : Reached s es) where
   swap-is : (m r : ℕ) → ChildSwap s es m r → (step-swaps k (moves m .0) ≡ r) × (1 ≤ r)
   swap-is m r w = go (moves m .1)
     where
-      event-same : (n p : ℕ) → step n ≡ step p → n ≡ p
-      event-same n p e = cc
-
       go : KindAt s es m k (moves m .0) → (step-swaps k (moves m .0) ≡ r) × (1 ≤ r)
       go (none-swaps e d) = absurd (d r w)
       go (one-swaps x l v e) =
-          let z : v .process ≡ w .process = event-same (v .process) (w .process) (sym (v .event) ∙ w .event) in
+          let z : v .process ≡ w .process = step-one (v .process) (w .process) (sym (v .event) ∙ w .event) in
           let a : x ≡ r = sym (v .helps) ∙ ap (λ (p : ℕ). taken (W m) p .helped) z ∙ w .helps in
           (e ∙ a, omega arith)
 

@@ -1,13 +1,13 @@
 -- Rows 4 and 5: the compare on p's or gp's pending, the draw, the answer full, or help.
 use Prim.Native.Nat.{ℕ, _+_, _-_, _≤_, _<_}
 use mathlib.Core.Path.{_≡_, refl, sym, ap, _∙_, subst}
-use mathlib.Core.Logic.{_≢_}
+use mathlib.Core.Logic.{_≢_, inr}
 use mathlib.Core.Bool.{Bool, true, false}
 use mathlib.Core.List.{List}
 use native.Mathlib.Omega.{arith}
 use native.Mathlib.Decide.{decLe}
 use borrow.Author.Tests.{eqb-true, eq-eqb, ne-eqb}
-use Rattle.tables.specs.Choice.{pick, both, either}
+use Rattle.tables.specs.Choice.{pick, both}
 use Rattle.tables.specs.Layout.{tagWord, pendingWord, recordWord, processField, operationField, keyField}
 use Rattle.tables.specs.Pending.{wordOf, pendingOf}
 use Rattle.tables.specs.Node.{kinOf, isNode}
@@ -16,7 +16,7 @@ use Rattle.tables.specs.declared.header.Header.{Header}
 use Rattle.tables.specs.declared.node.Kin.{Kin}
 use Rattle.tables.specs.declared.pending.Pending.{Pending}
 use Rattle.tables.specs.declared.pending.Pending.the-variants.{Clean, Replace, Prune, Mark}
-use Rattle.tables.proofs.Picks.{both-1, both-2, both-is}
+use Rattle.tables.proofs.Picks.{both-1, both-2, both-is, either-some}
 use Rattle.process.specs.declared.Process.{Process}
 use Rattle.process.specs.declared.Stepped.{Stepped}
 use Rattle.process.specs.Process.{withOwn, toSix, toNine}
@@ -54,11 +54,6 @@ help-good-empty b h depth top e (Clean r) = rw e refl
 help-good-empty b h depth top e (Replace r) = refl
 help-good-empty b h depth top e (Prune r) = refl
 help-good-empty b h depth top e (Mark r) = refl
-
-either-2 : (s t : Bool) → t ≡ true → either s t ≡ true
-unfolding pick
-either-2 true t e = refl
-either-2 false t e = e
 
 -- after a draw by process n every record in use has its process in range
 drew-owners : {h : Header} {b b′ : List ℕ} {flagged needed kind third expected : ℕ} (j : Job) → Drew h b b′ flagged needed kind (recordImage kind third expected j)
@@ -139,7 +134,7 @@ module _ {hs : ℕ → Header} {bs : ℕ → List ℕ} {i j n : ℕ} (now : Now 
 
     flag-sound : flagGood b h n q (touch4 h q) ≡ true
     flag-sound =
-        both-is seen-sound (either-2 (succeeds b h (touch4 h q)) _ (help-good-empty b h (q .depth) (topOf b h n q) (y .counters .early-depth (omega arith)) (pendingOf (pendingWord b h (q .p)))))
+        both-is seen-sound (either-some (succeeds b h (touch4 h q)) _ (inr (help-good-empty b h (q .depth) (topOf b h n q) (y .counters .early-depth (omega arith)) (pendingOf (pendingWord b h (q .p))))))
 
     sound : both (isNode (kinOf b h (q .l))) (both (leafGood4 b h q (kinAt b h (q .l))) (flagGood b h n q (touch4 h q))) ≡ true
     sound = both-is (node-good b h (q .l) (w₄ .leaf .used) (omega (arith, leaf))) (both-is leaf-sound flag-sound)
@@ -229,7 +224,7 @@ module _ {hs : ℕ → Header} {bs : ℕ → List ℕ} {i j n : ℕ} (now : Now 
     sound₅ : flagGood b h n q (touch5 h q) ≡ true
     sound₅ =
         both-is (pending-good b h (pendingOf (pendingWord b h (q .gp))) (word-names (S j) (I .inv .pending (q .gp) gp-used)))
-        (either-2 (succeeds b h (touch5 h q)) _ (help-good-empty b h (q .depth) (topOf b h n q) (y .counters .early-depth (omega arith)) (pendingOf (pendingWord b h (q .gp)))))
+        (either-some (succeeds b h (touch5 h q)) _ (inr (help-good-empty b h (q .depth) (topOf b h n q) (y .counters .early-depth (omega arith)) (pendingOf (pendingWord b h (q .gp))))))
 
     module _ (same : pendingWord b h (q .gp) ≡ wordOf (q .gseen)) (room : Room h 0) where
       abbrev b₅ : List ℕ

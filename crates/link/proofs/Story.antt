@@ -24,7 +24,7 @@ use Rattle.link.specs.Events.{Event, start, step, State, taken, stepIn, 
 use Rattle.link.proofs.Minds.{mindOf}
 use Rattle.link.proofs.Moments.{tables, Busy}
 use Rattle.link.proofs.Searching.{known}
-use Rattle.link.proofs.Reached.{since-next, taken-own, taken-other, its-turn, its-shift, state-is, header-is}
+use Rattle.link.proofs.Reached.{since-next, since-stays, taken-own, taken-other, its-turn, its-shift, state-is, header-is}
 use Rattle.link.proofs.Keeps.{OwnTo, same-own, new-own, no-own, Kept, goes, stops, kept}
 use Rattle.link.proofs.Outcomes.{Outcome, nothing, begun, moved, outcome}
 use Rattle.link.proofs.Clauses.{Reached, good, hk, sound, step-at, grows, processes-at}
@@ -62,10 +62,6 @@ module _ {s : State} {es : List Event} (reached : Reached s es) where
   abbrev S : ℕ → Shared
   S = tables (headerAt s es) (blockAt s es)
 
-  since-same : (m n : ℕ) → starts (W m) (eventAt es m) n ≡ false → sinceAt s es n (suc m) ≡ sinceAt s es n m
-  unfolding pick
-  since-same m n e = since-next s es m n (eventAt es m) false refl e
-
   failed-on : (m r : ℕ) → In (S m .records) r → Failed (S m .view) (S m .rec r) r → Failed (S (suc m) .view) (S (suc m) .rec r) r
   failed-on m r u f = failed-stays (hk reached) (sound reached m) r (step-at reached m) u f
 
@@ -75,14 +71,14 @@ module _ {s : State} {es : List Event} (reached : Reached s es) where
   unfolding pick
   carried m n e f g drawn y = record {
     begin = y .begin;
-    since = since-same m n f ∙ y .since;
+    since = since-stays s es m n (eventAt es m) refl f ∙ y .since;
     before = omega (arith, y .before);
     event = y .event ∙ ap (λ (q : Process). start n (q .operation) (q .key)) (sym e);
     accepted = y .accepted;
     steps = ap (λ (q : Process). q .steps) e ∙ y .steps ∙ ap capped (sym (steps-next s es m n false false f g));
     own = λ d. subst (λ (q : Process). S (sinceAt s es n (suc m)) .records < q .own) (sym e)
-        (subst (λ (x : ℕ). S x .records < taken (W m) n .own) (sym (since-same m n f)) (y .own (λ z. d (ap (λ (q : Process). q .own) e ∙ z))));
-    past = λ r u l p. go r u (subst (λ (x : ℕ). S x .records < r) (since-same m n f) l) p (decLe r (S m .records));
+        (subst (λ (x : ℕ). S x .records < taken (W m) n .own) (sym (since-stays s es m n (eventAt es m) refl f)) (y .own (λ z. d (ap (λ (q : Process). q .own) e ∙ z))));
+    past = λ r u l p. go r u (subst (λ (x : ℕ). S x .records < r) (since-stays s es m n (eventAt es m) refl f) l) p (decLe r (S m .records));
   }
     where
       go : (r : ℕ) → In (S (suc m) .records) r → S (sinceAt s es n m) .records < r → S (suc m) .rec r .process ≡ n → Dec (r ≤ S m .records)
@@ -142,7 +138,7 @@ module _ {s : State} {es : List Event} (reached : Reached s es) where
     unfolding pick
     advanced q′ x st op ky ow = record {
       begin = y .begin;
-      since = since-same m n f ∙ y .since;
+      since = since-stays s es m n (eventAt es m) refl f ∙ y .since;
       before = omega (arith, y .before);
       event =
           y .event
@@ -150,9 +146,9 @@ module _ {s : State} {es : List Event} (reached : Reached s es) where
       accepted = y .accepted;
       steps =
           ap (λ (a : Process). a .steps) is ∙ ap stepsUp (st ∙ y .steps) ∙ capped-up (stepsAt s es n m) ∙ ap capped (sym (steps-next s es m n false true f g));
-      own = λ d. subst (λ (a : ℕ). S a .records < taken (W (suc m)) n .own) (sym (since-same m n f))
+      own = λ d. subst (λ (a : ℕ). S a .records < taken (W (suc m)) n .own) (sym (since-stays s es m n (eventAt es m) refl f))
           (subst (λ (a : Process). S (sinceAt s es n m) .records < a .own) (sym is) (own-late ow (λ v. d (ap (λ (a : Process). a .own) is ∙ v))));
-      past = λ r v l p. past r v (subst (λ (a : ℕ). S a .records < r) (since-same m n f) l) p (decLe r (S m .records));
+      past = λ r v l p. past r v (subst (λ (a : ℕ). S a .records < r) (since-stays s es m n (eventAt es m) refl f) l) p (decLe r (S m .records));
     }
       where
         is : taken (W (suc m)) n ≡ withSteps q′ (stepsUp (q′ .steps))

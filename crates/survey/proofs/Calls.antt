@@ -18,12 +18,13 @@ use Rattle.tables.specs.Fresh.{overFront}
 use Rattle.tables.specs.declared.header.Header.{Header}
 use Rattle.tables.specs.declared.numbers.Refusal.{Refusal}
 use Rattle.tables.specs.declared.numbers.Refusal.the-variants.{ListTooShort, InfinityGiven, LowAboveHigh}
+use Rattle.tables.proofs.Picks.{either-some}
 use Rattle.tables.proofs.OneToOne.{none-accepts, first-refuses}
 use Rattle.walk.specs.Walk.{walked}
 use Rattle.walk.specs.Calls.{keysMet, listRest, listReasons, ListOut, listOut, listOf, partOf, anyWithin, rangeRest, rangeReasons, rangeOf}
 use Rattle.walk.specs.declared.Listed.the-variants.{Count, Refused as ListRefused}
 use Rattle.walk.specs.declared.Cleared.the-variants.{No, Yes, Refused as RangeRefused}
-use Rattle.walk.proofs.Answers.{list-first-says, list-counts, list-count, range-first-says, Clear, Inside, any-inside, none-clear, clear-yes, range-inside-no, yes-clear, no-inside}
+use Rattle.walk.proofs.Answers.{one-listed, list-first-says, list-counts, list-count, range-first-says, Clear, Inside, any-inside, none-clear, clear-yes, range-inside-no, yes-clear, no-inside}
 use Rattle.history.proofs.Invariant.{Sound}
 use Rattle.link.specs.Tables.{tablesOf}
 use Rattle.link.proofs.Writes.{Fit}
@@ -42,19 +43,10 @@ list-apart n e xs ys q = let z : _≡_ {A = ℕ} 0 1 = apart (ap (λ (o : ListOu
     apart q = cc
 
 list-same : (d e : Refusal) (xs : List ℕ) → listOut (ListRefused d) xs ≡ listOut (ListRefused e) xs → e ≡ d
-list-same d e xs q = same (ap (λ (o : ListOut). o .listed) q)
-  where
-    same : ListRefused d ≡ ListRefused e → e ≡ d
-    same q = cc
+list-same d e xs q = sym (one-listed d e (ap (λ (o : ListOut). o .listed) q))
 
 cleared-same : (d e : Refusal) → RangeRefused d ≡ RangeRefused e → e ≡ d
 cleared-same d e q = cc
-
-either-some : (s t : Bool) → (s ≡ true) ⊎ (t ≡ true) → either s t ≡ true
-unfolding pick
-either-some true t e = refl
-either-some false t (inl e) = let z : _≡_ {A = ℕ} 0 1 = cc in absurd (omega arith)
-either-some false t (inr e) = e
 
 neither : {s t : Bool} → s ≡ false → t ≡ false → either s t ≡ false
 unfolding pick

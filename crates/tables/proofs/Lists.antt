@@ -23,7 +23,7 @@ pub ruleset past = (get-past, set-past)
 pub from-here : (l : List ℕ) (i : ℕ) → i < length l → drop i l ≡ getD l i 0 ∷ drop (i + 1) l
 from-here l i p = rw (add-one i) (drop-cons l i 0 p)
 
-moved : (i j : ℕ) → i + 1 + j ≡ i + suc j
+pub moved : (i j : ℕ) → i + 1 + j ≡ i + suc j
 moved i j = omega arith
 
 module _ {A : Type 0} (f : ℕ → A) where

@@ -181,14 +181,14 @@ pub read-refused : (b : List ℕ) (e : Refusal) → headerRead b ≡ Refused e �
 unfolding both
 read-refused b e = answers-first Refused (Good (headerOf b)) (blockReasons b) e (λ d p. cc) (λ p. let z : _≡_ {A = ℕ} 0 1 = cc in omega arith) refl
 
+pub one-made : (d e : Refusal) → MadeRefused d ≡ MadeRefused e → d ≡ e
+one-made d e q = cc
+
+pub not-done : (e : Refusal) → Done ≡ MadeRefused e → ⊥
+not-done e q = let z : _≡_ {A = ℕ} 0 1 = cc in omega arith
+
 pub make-refused : (b : List ℕ) (k p n r : ℕ) (e : Refusal) → makeOf b k p n r ≡ makeOut (MadeRefused e) b → First (numberOf e) (makingReasons b k p n r)
 unfolding both
 make-refused b k p n r e =
     answers-first (λ d. makeOut (MadeRefused d) b) (makeOut Done (overFront (freshBlock (freshHeader k p n r)) b)) (makingReasons b k p n r) e
-    (λ d q. one d (ap (λ (o : MakeOut). o .made) q)) (λ q. never (ap (λ (o : MakeOut). o .made) q)) refl
-  where
-    one : (d : Refusal) → MadeRefused d ≡ MadeRefused e → d ≡ e
-    one d q = cc
-
-    never : Done ≡ MadeRefused e → ⊥
-    never q = let z : _≡_ {A = ℕ} 0 1 = cc in omega arith
+    (λ d q. one-made d e (ap (λ (o : MakeOut). o .made) q)) (λ q. not-done e (ap (λ (o : MakeOut). o .made) q)) refl

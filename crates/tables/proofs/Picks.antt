@@ -1,10 +1,11 @@
--- Laws of `pick`, `both`, `within`, and the rules by which a search proves a function with one or two tests.
+-- Laws of `pick`, `both`, `either`, `within`, and the rules by which a search proves a function with one or two tests.
 use Prim.Native.Nat.{ℕ, _≤_}
 use mathlib.Core.Path.{_≡_, refl, sym, subst, _∙_}
 use mathlib.Core.Bool.{Bool, true, false}
+use mathlib.Core.Logic.{_⊎_, inl, inr}
 use lib.Dec.{T}
 use borrow.Author.Tests.{lt-ltb, le-ltb, le-leb, lt-leb, eq-eqb, ne-eqb, leb-true}
-use Rattle.tables.specs.Choice.{pick, both, within}
+use Rattle.tables.specs.Choice.{pick, both, either, within}
 
 pub both-1 : (a b : Bool) → both a b ≡ true → a ≡ true
 unfolding both
@@ -38,6 +39,12 @@ pub both-assoc : (r s t : Bool) → both (both r s) t ≡ both r (both s t)
 unfolding both
 both-assoc true s t = refl
 both-assoc false s t = refl
+
+pub either-some : (s t : Bool) → (s ≡ true) ⊎ (t ≡ true) → either s t ≡ true
+unfolding pick
+either-some true t e = refl
+either-some false t (inl e) = absurd (subst (λ (t : Bool). T t) (sym e) tt)
+either-some false t (inr e) = e
 
 -- two tests that are known, put together
 pub both-of : (s t x y u : Bool) → u ≡ both s t → s ≡ x → t ≡ y → u ≡ both x y

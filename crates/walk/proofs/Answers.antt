@@ -2,6 +2,7 @@
 use Prim.Native.Nat.{ℕ, zero, suc, _≤_}
 use mathlib.Core.Path.{_≡_, refl, sym, ap, _∙_}
 use mathlib.Core.Bool.{Bool, true, false}
+use mathlib.Core.Logic.{inr}
 use mathlib.Core.List.{List, [], _∷_, List·Memᴰ, List·Memᴰ·head, List·Memᴰ·tail}
 use native.Mathlib.Omega.{arith}
 use borrow.Author.Tests.{le-leb}
@@ -11,7 +12,7 @@ use Rattle.tables.specs.Refusal.{numberOf, refusal}
 use Rattle.tables.specs.Fresh.{overFront}
 use Rattle.tables.specs.declared.numbers.Refusal.{Refusal}
 use Rattle.tables.proofs.OneToOne.{refusal-number, none-accepts, tells, accepted-none, first-answers, answers-first}
-use Rattle.tables.proofs.Picks.{within-low, within-high}
+use Rattle.tables.proofs.Picks.{either-some, within-low, within-high}
 use Rattle.walk.specs.Answer.{answered, refusedBy, listedSays, clearedSays, cleared}
 use Rattle.walk.specs.Calls.{keysMet, listReasons, ListOut, listOut, listOf, partOf, anyWithin, rangeReasons, rangeOf}
 use Rattle.walk.specs.Passes.{filledOf}
@@ -20,6 +21,9 @@ use Rattle.walk.specs.declared.Listed.the-variants.{Count, Refused as Li
 use Rattle.walk.specs.declared.Cleared.{Cleared}
 use Rattle.walk.specs.declared.Cleared.the-variants.{No, Yes, Refused as RangeRefused}
 use Rattle.walk.proofs.Calling.{part-is}
+
+pub one-listed : (d e : Refusal) → ListRefused d ≡ ListRefused e → d ≡ e
+one-listed d e q = cc
 
 -- two answers that say the same are the same
 said-answer : (m n : ℕ) → answered m ≡ answered n → m ≡ n
@@ -71,10 +75,7 @@ module _ (b list : List ℕ) where
   unfolding both
   list-says-first e =
       answers-first (λ d. listOut (ListRefused d) list) full (listReasons b (length list)) e
-      (λ d q. one d (ap (λ (o : ListOut). o .listed) q)) (never e) refl
-    where
-      one : (d : Refusal) → ListRefused d ≡ ListRefused e → d ≡ e
-      one d q = cc
+      (λ d q. one-listed d e (ap (λ (o : ListOut). o .listed) q)) (never e) refl
 
   pub list-first-says : (e : Refusal) → First (numberOf e) (listReasons b (length list)) → listOf b list ≡ listOut (ListRefused e) list
   list-first-says e = first-answers (λ d. listOut (ListRefused d) list) full (listReasons b (length list)) e
@@ -143,11 +144,7 @@ module _ (low high : ℕ) where
   inside-any : (x : ℕ) (ks : List ℕ) → List·Memᴰ x ks → low ≤ x → x ≤ high → anyWithin low high ks ≡ true
   unfolding anyWithin pick both
   inside-any x (y ∷ ys) (List·Memᴰ·head e) p q = rw (← e, le-leb low x p, le-leb x high q) refl
-  inside-any x (y ∷ ys) (List·Memᴰ·tail m) p q = go (within low y high) (inside-any x ys m p q)
-    where
-      go : (t : Bool) → anyWithin low high ys ≡ true → either t (anyWithin low high ys) ≡ true
-      go true e = refl
-      go false e = e
+  inside-any x (y ∷ ys) (List·Memᴰ·tail m) p q = either-some (within low y high) (anyWithin low high ys) (inr (inside-any x ys m p q))
 
   pub none-clear : (ks : List ℕ) → anyWithin low high ks ≡ false → Clear low high ks
   none-clear ks e x m p q = let z = sym (inside-any x ks m p q) ∙ e in let n : _≡_ {A = ℕ} 0 1 = cc in omega arith
