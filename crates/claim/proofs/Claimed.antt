@@ -7,13 +7,9 @@ use native.Mathlib.Omega.{arith}
 use native.Mathlib.Decide.{decLe, decLt}
 use lib.ListN.{getD}
 use Rattle.tables.specs.Numbers.{infinity}
-use Rattle.tables.specs.Refusal.{numberOf}
 use Rattle.tables.specs.Layout.{blockWords}
-use Rattle.tables.specs.declared.numbers.Refusal.{Refusal}
-use Rattle.tables.specs.declared.numbers.Refusal.the-variants.{NoSuchProcess, Idle}
 use Rattle.process.specs.declared.Answer.{Answer}
 use Rattle.process.specs.declared.Answer.the-variants.{No, Yes, Full}
-use Rattle.process.specs.declared.StepAnswer.the-variants as steps
 use Rattle.process.specs.Process.{startedAs}
 use Rattle.points.specs.Rows.{rowOf}
 use Rattle.walk.specs.Calls.{keysMet, rangeOf}
@@ -25,7 +21,7 @@ use Rattle.history.specs.Effects.{SameSet, SetMoves, adds, removes, Moved, swap
 use Rattle.history.specs.Run.{Step, changes, rests, step-swaps, Moment}
 use Rattle.history.proofs.Invariant.{Sound}
 use Rattle.link.specs.Tables.{tablesOf}
-use Rattle.link.specs.Events.{Event, start, step, State, taken, stepIn, eventAt, stateAt, blockAt, headerAt, sinceAt}
+use Rattle.link.specs.Events.{Event, start, step, State, taken, eventAt, stateAt, blockAt, headerAt, sinceAt}
 use Rattle.link.specs.Swaps.{ChildSwap}
 use Rattle.link.specs.Operations.{Started, BusyWith, OperationOf, Answered}
 use Rattle.link.specs.Sets.{tablesAt, viewAt, InSet}
@@ -63,13 +59,6 @@ module _ {s : State} {es : List Event} (reached : Reached s es) where
 
   kept : (m y : ℕ) → Holds k (S m .view) y ↔ Holds k (S (suc m) .view) y → InSet s es m y ↔ InSet s es (suc m) y
   kept m y e = (λ a. in-set (suc m) y (e .0 (of-set m y a)), λ a. in-set m y (e .1 (of-set (suc m) y a)))
-
-  step-refused : (m n : ℕ) (e : Refusal) → stepIn (W m) n .answer ≡ steps.Refused e → (numberOf e ≡ 4) ⊎ (numberOf e ≡ 8)
-  step-refused m n e z = go (link.step-refused reached m n e z)
-    where
-      go : (e ≡ NoSuchProcess) ⊎ (e ≡ Idle) → (numberOf e ≡ 4) ⊎ (numberOf e ≡ 8)
-      go (inl a) = inl (ap numberOf a)
-      go (inr a) = inr (ap numberOf a)
 
   search-order : (m n i l x : ℕ) → Reach (headerAt s es m .k) (viewAt s es m) n → viewAt s es m .tag n ≡ headerAt s es m .k → In (headerAt s es m .k) i
       → Below (headerAt s es m .k) (viewAt s es m) (viewAt s es m .child n i) l → viewAt s es m .tag l ≢ headerAt s es m .k
@@ -341,7 +330,7 @@ module _ {s : State} {es : List Event} (reached : Reached s es) where
   pub claimed : Claim s es
   claimed = record {
     start-refused = link.start-refused reached;
-    step-refused = step-refused;
+    step-refused = link.step-refused reached;
     search-order = search-order;
     listing = listing;
     range = range;

@@ -3,7 +3,7 @@
 -- survey/specs (Set) and history/specs (View: the tree and the set; Effects: what changes).
 use Prim.Native.Nat.{ℕ, suc, _+_, _≤_, _<_}
 use mathlib.Core.Path.{_≡_}
-use mathlib.Core.Logic.{_≢_, _⊎_, _↔_}
+use mathlib.Core.Logic.{_≢_, _↔_}
 use mathlib.Core.List.{List, List·Memᴰ}
 use lib.ListN.{length, getD}
 use Rattle.tables.specs.Numbers.{infinity}
@@ -27,7 +27,7 @@ use Rattle.history.specs.Effects.{Moved, Grown}
 use Rattle.history.specs.Run.{Moment}
 use Rattle.link.specs.Events.{Event, State, taken, startIn, stepIn, stateAt, blockAt, headerAt, stepsAt, capped}
 use Rattle.link.specs.Swaps.{ChildSwap}
-use Rattle.link.specs.Operations.{Started, BusyWith, OperationOf, Answered}
+use Rattle.link.specs.Operations.{Started, BusyWith, OperationOf, Answered, NoStep, NoStart}
 use Rattle.link.specs.Sets.{tablesAt, viewAt, InSet}
 use Rattle.survey.specs.Set.{Lists, ClearOf, Between}
 
@@ -75,10 +75,10 @@ pub data Drawing (k : ℕ) (S S′ : Shared) : Type 0 where
   a-prune : S′ .records ≡ S .records + 1 → S′ .nodes ≡ S .nodes → S′ .rec (S .records + 1) .kind ≡ 2 → Drawing k S S′
 
 pub record Claim (s : State) (es : List Event) : Type 0 where
-  -- 1. No start is refused but by 4 to 7 and no step but by 4 or 8: whatever the others have done, none is damaged (3)
+  -- 1. No start is refused but by 4 to 7 and no step but by 4 or 8, and each only for its reason: whatever the others have done, none is damaged (3)
   pub start-refused : (m n operation key : ℕ) (e : Refusal) → startIn (stateAt s es m) n operation key .answer ≡ starts.Refused e
-      → (4 ≤ numberOf e) × (numberOf e ≤ 7)
-  pub step-refused : (m n : ℕ) (e : Refusal) → stepIn (stateAt s es m) n .answer ≡ steps.Refused e → (numberOf e ≡ 4) ⊎ (numberOf e ≡ 8)
+      → NoStart (stateAt s es m) n operation key (numberOf e)
+  pub step-refused : (m n : ℕ) (e : Refusal) → stepIn (stateAt s es m) n .answer ≡ steps.Refused e → NoStep (stateAt s es m) n (numberOf e)
   -- 2. "search order always holds" (Figure 3): a key in a leaf below child i of an internal node is one that goes by child i
   pub search-order : (m n i l x : ℕ) → Reach (headerAt s es m .k) (viewAt s es m) n → viewAt s es m .tag n ≡ headerAt s es m .k → In (headerAt s es m .k) i
       → Below (headerAt s es m .k) (viewAt s es m) (viewAt s es m .child n i) l → viewAt s es m .tag l ≢ headerAt s es m .k

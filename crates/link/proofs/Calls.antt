@@ -26,6 +26,7 @@ use Rattle.points.specs.declared.start.StartAnswer.the-variants as starts
 use Rattle.index.specs.Calls.{withRecord, StartOut, startOut, startCall, StepOut, stepOut, stepBy, stepCall}
 use Rattle.history.specs.View.{In}
 use Rattle.link.specs.Events.{State, taken, startIn, stepIn}
+use Rattle.link.specs.Operations.{NoStart, start-of-none, start-of-nothing, start-of-infinity, start-of-busy}
 use Rattle.link.proofs.Writes.{Fit}
 use Rattle.link.proofs.Checks.{within-is}
 
@@ -87,24 +88,24 @@ module _ (s : State) (fit : Fit (headerOf (s .block)) (s .block)) (rows : header
     rests : In (h .processes) n → taken s n .operation ≡ 0 → stepIn s n ≡ stepRefusedIn s 8 → Step n
     works : In (h .processes) n → taken s n .operation ≢ 0 → (soundStep b h n (taken s n) ≡ true → stepIn s n ≡ stepDoneIn s n) → Step n
 
+  place : (n top : ℕ) → within 1 n top ≡ true → In top n
+  place n top e = record { low = within-low 1 n top e; high = within-high 1 n top e }
+
+  outside : (n top : ℕ) → within 1 n top ≡ false → ¬ In top n
+  outside n top e u = let z : true ≡ false = sym (within-is 1 n top (u .low) (u .high)) ∙ e in let v : _≡_ {A = ℕ} 0 1 = cc in omega arith
+
   pub step-goes : (n : ℕ) → Step n
   unfolding pick stepCall
   step-goes n = go (within 1 n (h .processes)) refl (ℕ-discrete (taken s n .operation) 0)
     where
-      place : within 1 n (h .processes) ≡ true → In (h .processes) n
-      place e = record { low = within-low 1 n (h .processes) e; high = within-high 1 n (h .processes) e }
-
-      outside : within 1 n (h .processes) ≡ false → In (h .processes) n → ⊥
-      outside e u = let z : true ≡ false = sym (within-is 1 n (h .processes) (u .low) (u .high)) ∙ e in let v : _≡_ {A = ℕ} 0 1 = cc in omega arith
-
       go : (t : Bool) → within 1 n (h .processes) ≡ t → Dec (taken s n .operation ≡ 0) → Step n
-      go false e d = unknown (λ u. outside e u) (rw (t₁, t₂, t₃, t₄, e) refl)
-      go true e (yes z) = rests (place e) z (rw (t₁, t₂, t₃, t₄, e, eq-eqb (taken s n .operation) 0 z) refl)
-      go true e (no z) = works (place e) z (λ x. rw (t₁, t₂, t₃, t₄, e, ne-eqb (taken s n .operation) 0 z, x) refl)
+      go false e d = unknown (outside n (h .processes) e) (rw (t₁, t₂, t₃, t₄, e) refl)
+      go true e (yes z) = rests (place n (h .processes) e) z (rw (t₁, t₂, t₃, t₄, e, eq-eqb (taken s n .operation) 0 z) refl)
+      go true e (no z) = works (place n (h .processes) e) z (λ x. rw (t₁, t₂, t₃, t₄, e, ne-eqb (taken s n .operation) 0 z, x) refl)
 
   -- how a start goes
   pub data Start (n operation key : ℕ) : Type 0 where
-    refused : (r : ℕ) → 4 ≤ numberOf (refusal r) → numberOf (refusal r) ≤ 7 → startIn s n operation key ≡ startRefusedIn s r → Start n operation key
+    refused : (r : ℕ) → NoStart s n operation key (numberOf (refusal r)) → startIn s n operation key ≡ startRefusedIn s r → Start n operation key
     accepted : In (h .processes) n → 1 ≤ operation → operation ≤ 3 → key ≢ infinity → taken s n .operation ≡ 0
         → startIn s n operation key ≡ startDoneIn s n operation key → Start n operation key
 
@@ -114,10 +115,10 @@ module _ (s : State) (fit : Fit (headerOf (s .block)) (s .block)) (rows : header
       go (within 1 n (h .processes)) refl (within 1 operation 3) refl (ℕ-discrete key infinity) (ℕ-discrete (taken s n .operation) 0)
     where
       go : (t : Bool) → within 1 n (h .processes) ≡ t → (u : Bool) → within 1 operation 3 ≡ u → Dec (key ≡ infinity) → Dec (taken s n .operation ≡ 0) → Start n operation key
-      go false e u f d z = refused 4 (omega arith) (omega arith) (rw (t₁, t₂, t₃, t₄, e) refl)
-      go true e false f d z = refused 5 (omega arith) (omega arith) (rw (t₁, t₂, t₃, t₄, e, f) refl)
-      go true e true f (yes d) z = refused 6 (omega arith) (omega arith) (rw (t₁, t₂, t₃, t₄, e, f, eq-eqb key infinity d) refl)
-      go true e true f (no d) (no z) = refused 7 (omega arith) (omega arith) (rw (t₁, t₂, t₃, t₄, e, f, ne-eqb key infinity d, ne-eqb (taken s n .operation) 0 z) refl)
+      go false e u f d z = refused 4 (start-of-none refl (outside n (h .processes) e)) (rw (t₁, t₂, t₃, t₄, e) refl)
+      go true e false f d z = refused 5 (start-of-nothing refl (outside operation 3 f)) (rw (t₁, t₂, t₃, t₄, e, f) refl)
+      go true e true f (yes d) z = refused 6 (start-of-infinity refl d) (rw (t₁, t₂, t₃, t₄, e, f, eq-eqb key infinity d) refl)
+      go true e true f (no d) (no z) = refused 7 (start-of-busy refl z) (rw (t₁, t₂, t₃, t₄, e, f, ne-eqb key infinity d, ne-eqb (taken s n .operation) 0 z) refl)
       go true e true f (no d) (yes z) =
-          accepted (record { low = within-low 1 n (h .processes) e; high = within-high 1 n (h .processes) e }) (within-low 1 operation 3 f) (within-high 1 operation 3 f) d z
+          accepted (place n (h .processes) e) (within-low 1 operation 3 f) (within-high 1 operation 3 f) d z
           (rw (t₁, t₂, t₃, t₄, e, f, ne-eqb key infinity d, eq-eqb (taken s n .operation) 0 z) refl)

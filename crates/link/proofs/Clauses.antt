@@ -30,6 +30,7 @@ use Rattle.history.proofs.Runs.{sound-at, grown-at}
 use Rattle.history.proofs.Swapping.{SwapBetween, one-swap}
 use Rattle.link.specs.Events.{Event, step, State, taken, startIn, stepIn, eventAt, stateAt, blockAt, headerAt, Proper, sinceAt}
 use Rattle.link.specs.Swaps.{ChildSwap}
+use Rattle.link.specs.Operations.{NoStep, step-of-none, step-of-idle, NoStart}
 use Rattle.link.proofs.Moments.{tables, Why, Follows, already, afterwards, answers, k-low}
 use Rattle.link.proofs.Stepping.{turn, step-sound}
 use Rattle.link.proofs.Calls as calls
@@ -106,33 +107,36 @@ module _ {s : State} {es : List Event} (reached : Reached s es) where
   pub sound : (m : ℕ) → Sound k (S m)
   sound m = sound-at hk (run m) sound₀ m (omega arith)
 
-  -- 1. No step is refused but for an unknown or an idle process; no start but by 4 to 7.
-  pub step-refused : (m n : ℕ) (e : Refusal) → stepIn (W m) n .answer ≡ Refused e → (e ≡ NoSuchProcess) ⊎ (e ≡ Idle)
+  -- 1. A call is refused only where there is no such process, for a step of an idle one, or for what is given to a start.
+  pub step-refused : (m n : ℕ) (e : Refusal) → stepIn (W m) n .answer ≡ Refused e → NoStep (W m) n (numberOf e)
   step-refused m n e z = go (calls.step-goes (W m) (good m .now .fit) (good m .rows) n)
     where
+      same : (d : Refusal) → stepIn (W m) n .answer ≡ Refused d → numberOf e ≡ numberOf d
+      same d x = ap numberOf (sym (one-step d e (sym x ∙ z)))
+
       says : (t : Stepped) → stepIn (W m) n .answer ≡ t .answer → (t .answer ≡ GoesOn) ⊎ ((a : Answer) × (t .answer ≡ Ended a (stepsUp (taken (W m) n .steps))) × Why (hs m .k) S (sinceAt s es n m) m n (taken (W m) n) a) → ⊥
       says t x (inl g) = let v : GoesOn ≡ Refused e = sym g ∙ sym x ∙ z in let w : _≡_ {A = ℕ} 0 1 = cc in omega arith
       says t x (inr g) =
           let v : Ended (g .0) (stepsUp (taken (W m) n .steps)) ≡ Refused e = sym (g .1) ∙ sym x ∙ z in
           let w : _≡_ {A = ℕ} 0 1 = cc in omega arith
 
-      go : calls.Step (W m) (good m .now .fit) (good m .rows) n → (e ≡ NoSuchProcess) ⊎ (e ≡ Idle)
-      go (calls.unknown d x) = inl (sym (one-step NoSuchProcess e (sym (ap (λ (o : StepOut). o .answer) x) ∙ z)))
-      go (calls.rests u d x) = inr (sym (one-step Idle e (sym (ap (λ (o : StepOut). o .answer) x) ∙ z)))
+      go : calls.Step (W m) (good m .now .fit) (good m .rows) n → NoStep (W m) n (numberOf e)
+      go (calls.unknown d x) = step-of-none (same NoSuchProcess (ap (λ (o : StepOut). o .answer) x)) d
+      go (calls.rests u d x) = step-of-idle (same Idle (ap (λ (o : StepOut). o .answer) x)) u d
       go (calls.works u d f) =
           let y = at-work d (good m .each n u) in
           absurd (says (rowOf (bs m) (hs m) n (taken (W m) n) .stepped) (ap (λ (o : StepOut). o .answer) (f (step-sound (good m .now) (taken (W m) n) y)))
           (stepped-says (turn (good m .now) (taken (W m) n) y .follows)))
 
-  pub start-refused : (m n operation key : ℕ) (e : Refusal) → startIn (W m) n operation key .answer ≡ start-answers.Refused e → (4 ≤ numberOf e) × (numberOf e ≤ 7)
+  pub start-refused : (m n operation key : ℕ) (e : Refusal) → startIn (W m) n operation key .answer ≡ start-answers.Refused e → NoStart (W m) n operation key (numberOf e)
   start-refused m n operation key e z = go (calls.start-goes (W m) (good m .now .fit) (good m .rows) n operation key)
     where
       same : (d f : Refusal) → start-answers.Refused d ≡ start-answers.Refused f → d ≡ f
       same d f x = cc
 
-      go : calls.Start (W m) (good m .now .fit) (good m .rows) n operation key → (4 ≤ numberOf e) × (numberOf e ≤ 7)
-      go (calls.refused r d f x) =
-          subst (λ (a : Refusal). (4 ≤ numberOf a) × (numberOf a ≤ 7)) (same (refusal r) e (sym (ap (λ (o : StartOut). o .answer) x) ∙ z)) (d, f)
+      go : calls.Start (W m) (good m .now .fit) (good m .rows) n operation key → NoStart (W m) n operation key (numberOf e)
+      go (calls.refused r d x) =
+          subst (λ (a : Refusal). NoStart (W m) n operation key (numberOf a)) (same (refusal r) e (sym (ap (λ (o : StartOut). o .answer) x) ∙ z)) d
       go (calls.accepted u a c d f x) =
           let v : start-answers.Accepted ≡ start-answers.Refused e = sym (ap (λ (o : StartOut). o .answer) x) ∙ z in
           let w : _≡_ {A = ℕ} 0 1 = cc in absurd (omega arith)

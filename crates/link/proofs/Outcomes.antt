@@ -72,7 +72,7 @@ module _ {s : State} {es : List Event} {m : ℕ} (good : Good s es m) where
       no-step p = ap (λ (e : Event). steppedBy (W m) e p) z
 
       go : calls.Start (W m) (good .now .fit) (good .rows) n operation key → Outcome s es m
-      go (calls.refused r d f e) =
+      go (calls.refused r d e) =
           nothing (state-next s es m (start n operation key) z ∙ ap (started-to (W m)) e)
           (λ p. ap (λ (x : Event). starts (W m) x p) z ∙ ap (λ (o : StartOut). both (eqb n p) (isAccepted (o .answer))) e ∙ both-false (eqb n p)) no-step
       go (calls.accepted u a c d f e) =

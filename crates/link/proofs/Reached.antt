@@ -220,7 +220,7 @@ module _ {s : State} {es : List Event} {m : ℕ} (good : Good s es m) where
   go-on (start n operation key) z x = go (calls.start-goes (W m) (good .now .fit) (good .rows) n operation key)
     where
       go : calls.Start (W m) (good .now .fit) (good .rows) n operation key → Good s es (suc m)
-      go (calls.refused r d f e) =
+      go (calls.refused r d e) =
           still (state-next s es m (start n operation key) z ∙ ap (started-to (W m)) e)
           (λ p. since-stays s es m p (start n operation key) z (ap (λ (o : StartOut). both (eqb n p) (isAccepted (o .answer))) e ∙ both-false (eqb n p)))
       go (calls.accepted u a c d f e) = begins n operation key u z a c (omega arith) e
