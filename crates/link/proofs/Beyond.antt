@@ -30,8 +30,7 @@ use Rattle.points.specs.Rows.{jobOf, rowOf}
 use Rattle.points.specs.Step.{stepReasons}
 use Rattle.points.proofs.Accepted.{Accepted, Known, accepted-known}
 use Rattle.points.proofs.Counted.{neededAt}
-use Rattle.points.proofs.Leaves.{Leaves, by-touch, by-stack, by-replace, by-prune, by-none, placeOf, ownWord}
-use Rattle.points.proofs.Touches.{needs-4, step-leaves, touch-shared}
+use Rattle.points.proofs.Leaves.{Leaves, by-touch, by-stack, by-replace, by-prune, by-none, placeOf, ownWord, row-shares, row-leaves}
 use Rattle.index.specs.Calls.{recordOf, StepOut, stepOut, stepBy, stepCall}
 
 -- word i stands behind the block of h
@@ -94,7 +93,7 @@ module _ (h : Header) (i : ℕ) (behind : blockWords h ≤ i) where
 module _ (b : List ℕ) (rows n : ℕ) (q : Process) (a : Accepted b rows n q) where
   row-behind : (i : ℕ) → blockWords (headerOf b) ≤ i → getD (rowOf b (headerOf b) n q .block) i 0 ≡ getD b i 0
   unfolding replaceDrawn pruneDrawn pick
-  row-behind i behind = go (step-leaves b rows n q a)
+  row-behind i behind = go (row-leaves b h n q known (known .sound))
     where
       h : Header
       h = headerOf b
@@ -107,7 +106,7 @@ module _ (b : List ℕ) (rows n : ℕ) (q : Process) (a : Accepted b rows n q) w
 
       inside : Inside h (placeOf touch)
       inside =
-          let s = touch-shared b rows n q a in
+          let s = row-shares b h n q known (known .sound) in
           record { from-one = s .from-one; to-last = omega (arith, s .to-used, known .limited); within = omega (arith, s .to-pending) }
 
       go : Leaves b h n q (rowOf b h n q) → getD (rowOf b h n q .block) i 0 ≡ getD b i 0
@@ -117,10 +116,11 @@ module _ (b : List ℕ) (rows n : ℕ) (q : Process) (a : Accepted b rows n q) w
           ∙ set-behind h i behind (touched b h touch) (inStack n (ownWord q)) v (record { from-one = known .from-one; to-last = known .to-last; within = l })
           ∙ touched-behind h i behind b touch inside
       go (by-replace p t u g e) =
+          let needed : neededAt b h q ≡ neededNodes h (q .operation) (tagWord b h (q .l)) = rw p refl in
           let room : Room h (neededAt b h q) = room-is h (neededAt b h q) (both-2 _ _ t) in
           ap (λ (c : List ℕ). getD c i 0) e
           ∙ committed-behind h i behind (nodesDrawn b h (jobOf n q) (tagWord b h (q .l))) replaceKind (newNode h) 0 (neededNodes h (q .operation) (tagWord b h (q .l))) (jobOf n q) (q .p) (room .record-left) (u .from-one) (omega (arith, u .to-used, known .limited))
-          ∙ nodes-behind h i behind b (jobOf n q) (tagWord b h (q .l)) (omega (arith, room .nodes-left, needs-4 b h q p))
+          ∙ nodes-behind h i behind b (jobOf n q) (tagWord b h (q .l)) (omega (arith, room .nodes-left))
       go (by-prune p t u g e) =
           let room : Room h (neededAt b h q) = room-is h (neededAt b h q) (both-2 _ _ t) in
           ap (λ (c : List ℕ). getD c i 0) e
