@@ -8,16 +8,18 @@ use native.Mathlib.Nat.{sub-eq-zero-of-le, not-suc-le-zero, le-of-suc-le-suc}
 use mir.Val.{Fits}
 use mir.Syntax.{w16}
 use borrow.Author.Tests.{leb-true, eqb-true}
-use lib.ListN.{length, getD, List·getD-eq-default}
+use lib.Dec.{ltb, leb, eqb}
+use lib.ListN.{length, getD, set, List·getD-eq-default}
 use lib.Seq.{sets, ext-getD}
-use Rattle.tables.specs.Choice.{pick, listed}
+use Rattle.tables.specs.Choice.{pick, both, listed}
+use Rattle.tables.specs.Layout.{recordAt, nodeAt, pendingPlace}
 use Rattle.tables.specs.Node.{leafImage, internalImage, withNode}
 use Rattle.tables.specs.Keys.{keyArray, sproutOf}
 use Rattle.tables.specs.declared.header.Header.{Header}
 use Rattle.tables.proofs.Picks.{both-2, pick-true}
 use Rattle.tables.proofs.Lists.{left-over, get-past, length-listed, getD-listed₀, sets-done}
 use Rattle.draws.specs.declared.Job.{Job}
-use Rattle.draws.specs.Draw.{putsIn, newRecord, roomFor, sprouts, neededNodes, newKeys, newCount, leafDrawn, largest, leavesFrom, sproutLeaves, sproutDrawn, nodesDrawn, committed, replaceDrawn, pruneDrawn, drawOut, replaceOf, pruneOf}
+use Rattle.draws.specs.Draw.{putsIn, newRecord, roomFor, sprouts, neededNodes, newKeys, newCount, leafDrawn, largest, leavesFrom, sproutLeaves, sproutDrawn, nodesDrawn, recordDrawn, committed, replaceDrawn, pruneDrawn, drawOut, replaceOf, pruneOf}
 
 module _ (operation count : ℕ) (t : Bool) (e : t ≡ putsIn operation) where
   pub count-in : t ≡ true → count + 1 ≡ newCount operation count
@@ -42,6 +44,13 @@ module _ (h : Header) (operation count : ℕ) (t : Bool) (e : t ≡ sprouts h op
   need-leaf f = cc
 
 pub ruleset counts = (count-in, count-none, count-out, need-sprout, need-leaf)
+
+pub room-is : (h : Header) (needed nodes : ℕ) (left fits r : Bool) → left ≡ ltb (h .recordsused) (h .records) → nodes ≡ h .nodesused + needed → fits ≡ leb nodes (h .nodes) →
+    r ≡ both left fits → r ≡ roomFor h needed
+room-is h needed nodes left fits r e f g i = cc
+
+pub sprouts-is : (h : Header) (operation count : ℕ) (full puts r : Bool) → full ≡ eqb (count + 1) (h .k) → puts ≡ putsIn operation → r ≡ both puts full → r ≡ sprouts h operation count
+sprouts-is h operation count full puts r e f g = cc
 
 pub largest-is : (ks : List ℕ) → length ks ≡ 8 →
     getD ks 1 0 ∷ getD ks 2 0 ∷ getD ks 3 0 ∷ getD ks 4 0 ∷ getD ks 5 0 ∷ getD ks 6 0 ∷ getD ks 7 0 ∷ 0 ∷ [] ≡ largest ks
@@ -120,6 +129,17 @@ all-listed l = ext-getD 0 _ l (length-listed _ 0 (length l)) (λ i p. getD-liste
 pub fields-done : (fs b₀ b : List ℕ) (base i : ℕ) → length fs ≡ 8 →
     sets b₀ (base + 0) (listed (λ m. getD fs m 0) 0 8) ≡ sets b (base + i) (listed (λ m. getD fs m 0) i (8 - i)) → 8 ≤ i → b ≡ sets b₀ (base + 0) fs
 fields-done fs b₀ b base i n inv p = sets-done _ b₀ b base i 8 inv p ∙ ap (λ (l : List ℕ). sets b₀ (base + 0) l) (rw n at (all-listed fs))
+
+pub field-put : (h : Header) (b c : List ℕ) (number field at word : ℕ) → number ≡ newRecord h → at ≡ recordAt h number field → c ≡ set b at word →
+    c ≡ set b (recordAt h (newRecord h) field) word
+field-put h b c number field at word e f g = cc
+
+-- the record, the two counts and the flag, one after the other
+pub all-committed : (b c d e r : List ℕ) (h : Header) (kind third expected needed flagged number at : ℕ) (j : Job) → c ≡ recordDrawn b h kind third expected j → number ≡ newRecord h →
+    d ≡ set c 3 (h .nodesused + needed) → e ≡ set d 5 number → at ≡ nodeAt h flagged (pendingPlace (h .k)) → r ≡ set e at (4 * number + kind) →
+    r ≡ committed b h kind third expected needed j flagged
+unfolding committed
+all-committed b c d e r h kind third expected needed flagged number at j w n x y p z = cc
 
 -- room leaves the used count small
 pub room-small : (h : Header) (needed : ℕ) (t : Bool) → t ≡ roomFor h needed → t ≡ true → Fits w16 (h .nodes) → h .nodesused + needed ≤ 65535

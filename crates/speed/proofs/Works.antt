@@ -4,11 +4,12 @@ use Prim.Native.Nat.{ℕ, zero, suc, _+_, _-_, _*_, _<_, _≤_, _^_, _/_, _%_}
 use native.Mathlib.Omega.{arith}
 use mathlib.Core.Bool.{Bool, true, false, not}
 use mathlib.Core.List.{List}
-use borrow.Author.Tests.{eq-eqb, ne-eqb}
+use borrow.Author.Tests.{not-true, not-false, eq-eqb, ne-eqb}
 use lib.Dec.{ltb, eqb}
 use lib.ListN.{replicate}
 use Rattle.tables.specs.Choice.{pick}
 use Rattle.tables.specs.declared.fresh.Made.{Made}
+use Rattle.tables.proofs.Lists.{left-over}
 use Rattle.process.specs.Process.{idle}
 use Rattle.process.specs.declared.Process.{Process}
 use Rattle.index.specs.Calls.{MakeOut, makeOut, makeCall}
@@ -67,24 +68,13 @@ one-more : (p : Part) (count n i : ℕ) (t : Tally) (b : List ℕ) → doneFrom 
 unfolding doneFrom
 one-more p count n i t b = refl
 
-some-left : (number i : ℕ) → i < number → number - i ≡ suc (number - (i + 1))
-some-left number i l = omega (arith, l)
-
-not-over : (t : Bool) → not t ≡ true → t ≡ false
-not-over true e = sym e
-not-over false e = refl
-
-is-over : (t : Bool) → not t ≡ false → t ≡ true
-is-over true e = refl
-is-over false e = sym e
-
 pub a-turn : {out : DoneOut} (p : Part) (count number i : ℕ) (c : Counted) (t : Tally) (was : Bool) (b b′ : List ℕ) → i < number → not was ≡ true → turnOut c b′ ≡ turnOf p count i t b
     → doneFrom p count (number - i) i was t b ≡ out → doneFrom p count (number - (i + 1)) (i + 1) (c .over) (c .tally) b′ ≡ out
 a-turn {out} p count number i c t was b b′ l ew e so =
     ap (λ (o : TurnOut). doneFrom p count (number - (i + 1)) (i + 1) (o .counted .over) (o .counted .tally) (o .block)) e
     ∙ (sym (one-more p count (number - (i + 1)) i t b)
-    ∙ (sym (ap (λ (n : ℕ). doneFrom p count n i false t b) (some-left number i l))
-    ∙ (sym (ap (λ (v : Bool). doneFrom p count (number - i) i v t b) (not-over was ew)) ∙ so)))
+    ∙ (sym (ap (λ (n : ℕ). doneFrom p count n i false t b) (left-over number i l))
+    ∙ (sym (ap (λ (v : Bool). doneFrom p count (number - i) i v t b) (not-true was ew)) ∙ so)))
 
 -- a part is at its end where none is left, or where one was over
 none-left : (p : Part) (count i : ℕ) (over : Bool) (t : Tally) (b : List ℕ) → doneFrom p count 0 i over t b ≡ doneOut (soFar t i) b
@@ -103,7 +93,7 @@ pub all-done : {out : DoneOut} (p : Part) (count number i : ℕ) (over : Bool) (
 all-done {out} p count number i over t b l so = sym (none-left p count i over t b) ∙ (sym (ap (λ (n : ℕ). doneFrom p count n i over t b) (no-more number i l)) ∙ so)
 
 pub over-done : {out : DoneOut} (p : Part) (count number i : ℕ) (over : Bool) (t : Tally) (b : List ℕ) → not over ≡ false → doneFrom p count (number - i) i over t b ≡ out → doneOut (soFar t i) b ≡ out
-over-done {out} p count number i over t b e so = sym (was-over p count (number - i) i t b) ∙ (sym (ap (λ (v : Bool). doneFrom p count (number - i) i v t b) (is-over over e)) ∙ so)
+over-done {out} p count number i over t b e so = sym (was-over p count (number - i) i t b) ∙ (sym (ap (λ (v : Bool). doneFrom p count (number - i) i v t b) (not-false over e)) ∙ so)
 
 nothing-off : (number : ℕ) → number - 0 ≡ number
 nothing-off number = omega arith
@@ -131,7 +121,7 @@ unfolding roundsFrom
 more-rounds n w t t′ b b′ e = sym (ap (λ (o : RoundOut). roundsFrom n w (o .tally) (o .block)) e)
 
 pub next-round : {out : RoundOut} (number i : ℕ) (w : Work) (t t′ : Tally) (b b′ : List ℕ) → i < number → roundOut t′ b′ ≡ roundOf w t b → roundsFrom (number - i) w t b ≡ out → roundsFrom (number - (i + 1)) w t′ b′ ≡ out
-next-round {out} number i w t t′ b b′ l e so = sym (more-rounds (number - (i + 1)) w t t′ b b′ e) ∙ (sym (ap (λ (n : ℕ). roundsFrom n w t b) (some-left number i l)) ∙ so)
+next-round {out} number i w t t′ b b′ l e so = sym (more-rounds (number - (i + 1)) w t t′ b b′ e) ∙ (sym (ap (λ (n : ℕ). roundsFrom n w t b) (left-over number i l)) ∙ so)
 
 no-round : (w : Work) (t : Tally) (b : List ℕ) → roundsFrom 0 w t b ≡ roundOut t b
 unfolding roundsFrom

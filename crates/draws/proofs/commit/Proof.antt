@@ -1,11 +1,10 @@
 -- The proof that `commit` keeps its contract.
 use borrow.Author.Needs.{needs}
-use Rattle.draws.specs.Draw.{committed}
+use Rattle.draws.proofs.Laws.{all-committed}
 use Rattle.draws.proofs.commit.Statement.{statement}
 use Rattle.draws.proofs.commit.Tie as tie
 
 pub commit-spec : {M : Type 1} → statement M
-unfolding committed
 commit-spec =
     tie.close
     (tie.spec
@@ -21,5 +20,5 @@ commit-spec =
     (λ c. search needs)  -- add-put-at-2
     (λ c κs. search needs)  -- put-at-requires-3
     (λ c. search needs)  -- same-length
-    (λ c. cc)  -- returns
+    (λ c. search all-committed)  -- returns
     )

@@ -1,5 +1,6 @@
 -- The proof that `put_field` keeps its contract.
 use borrow.Author.Needs.{needs}
+use Rattle.draws.proofs.Laws.{field-put}
 use Rattle.draws.proofs.put_field.Statement.{statement}
 use Rattle.draws.proofs.put_field.Tie as tie
 
@@ -12,5 +13,5 @@ put-field-spec =
     (λ c κs. search needs)  -- record-at-requires
     (λ c κs. search needs)  -- put-at-requires
     (λ c. search needs)  -- same-length
-    (λ c. cc)  -- returns
+    (λ c. search field-put)  -- returns
     )

@@ -1,5 +1,6 @@
 -- The proof that `sprouts` keeps its contract.
 use borrow.Author.Needs.{needs}
+use Rattle.draws.proofs.Laws.{sprouts-is}
 use Rattle.draws.proofs.sprouts.Statement.{statement}
 use Rattle.draws.proofs.sprouts.Tie as tie
 
@@ -12,5 +13,5 @@ sprouts-spec =
     (λ c κs. search needs)  -- same-requires
     (λ c κs. search needs)  -- puts-in-requires
     (λ c κs. search needs)  -- and-requires
-    (λ c. cc)  -- returns
+    (λ c. search sprouts-is)  -- returns
     )
