@@ -11,8 +11,8 @@ use Rattle.tables.specs.Choice.{pick}
 use Rattle.tables.specs.Numbers.{kStored, numbersGood}
 use Rattle.tables.specs.Refusal.{refusal}
 use Rattle.tables.specs.Layout.{blockWords}
-use Rattle.tables.specs.Fresh.{freshHeader}
-use Rattle.tables.specs.declared.fresh.Made.the-variants.{Done, Refused}
+use Rattle.fresh.specs.Fresh.{freshHeader}
+use Rattle.fresh.specs.declared.Made.the-variants.{Done, Refused}
 use Rattle.process.specs.declared.Process.{Process}
 use Rattle.index.specs.Calls.{makeCall}
 use Rattle.link.specs.Events.{Event, AllProper, State, freshState}

@@ -8,8 +8,7 @@ use mathlib.Core.List.{List, List·Memᴰ}
 use lib.ListN.{length, getD}
 use Rattle.tables.specs.Numbers.{infinity}
 use Rattle.tables.specs.Refusal.{numberOf}
-use Rattle.tables.specs.Layout.{blockWords}
-use Rattle.tables.specs.Fresh.{overFront}
+use Rattle.tables.specs.Layout.{blockWords, overFront}
 use Rattle.tables.specs.declared.numbers.Refusal.{Refusal}
 use Rattle.tables.specs.declared.numbers.Refusal.the-variants.{ListTooShort}
 use Rattle.process.specs.declared.Process.{Process}

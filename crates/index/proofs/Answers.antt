@@ -8,9 +8,9 @@ use Rattle.tables.specs.Choice.{decide}
 use Rattle.tables.specs.Refusal.{numberOf, refusal}
 use Rattle.tables.specs.Header.{headerOf}
 use Rattle.tables.specs.declared.numbers.Refusal.{Refusal}
-use Rattle.tables.specs.declared.fresh.Made.{Made}
-use Rattle.tables.specs.declared.fresh.Made.the-variants as made
 use Rattle.tables.proofs.OneToOne.{refusal-number, decide-on}
+use Rattle.fresh.specs.declared.Made.{Made}
+use Rattle.fresh.specs.declared.Made.the-variants as made
 use Rattle.process.specs.Answer.{answer, answerNumber}
 use Rattle.process.specs.declared.Process.{Process}
 use Rattle.process.specs.declared.Answer.{Answer}

@@ -10,13 +10,13 @@ use lib.Seq.{set-getD}
 use Rattle.tables.specs.Choice.{pick}
 use Rattle.tables.specs.Refusal.{refusal}
 use Rattle.tables.specs.Numbers.{kStored, numbersGood}
-use Rattle.tables.specs.Layout.{blockWords}
-use Rattle.tables.specs.Fresh.{freshHeader, overFront, MakeOut as BlockOut, makeOut as blockOut, makeOf}
+use Rattle.tables.specs.Layout.{blockWords, overFront}
 use Rattle.tables.specs.declared.numbers.Refusal.{Refusal}
 use Rattle.tables.specs.declared.numbers.Refusal.the-variants.{MakingNumber, TooShort}
-use Rattle.tables.specs.declared.fresh.Made.{Made}
-use Rattle.tables.specs.declared.fresh.Made.the-variants as made
 use Rattle.tables.proofs.OneToOne.{decide-on}
+use Rattle.fresh.specs.Fresh.{freshHeader, MakeOut as BlockOut, makeOut as blockOut, makeOf}
+use Rattle.fresh.specs.declared.Made.{Made}
+use Rattle.fresh.specs.declared.Made.the-variants as made
 use Rattle.process.specs.Process.{idle}
 use Rattle.process.specs.declared.Process.{Process}
 use Rattle.process.specs.declared.Stepped.{Stepped}

@@ -11,11 +11,13 @@ use lib.Seq.{getD-set-same, getD-set-other}
 use Rattle.tables.specs.Choice.{both, within, Reason, NoneHolds, nor, First}
 use Rattle.tables.specs.Refusal.{numberOf, refusal}
 use Rattle.tables.specs.Header.{headerOf, blockReasons}
-use Rattle.tables.specs.Fresh.{freshHeader, freshBlock, freshRow, overFront}
+use Rattle.tables.specs.Layout.{overFront}
 use Rattle.tables.specs.declared.numbers.Refusal.{Refusal}
-use Rattle.tables.specs.declared.fresh.Made.the-variants as made
 use Rattle.tables.proofs.Picks.{within-low, within-high}
-use Rattle.tables.proofs.OneToOne.{one-made, not-done, none-accepts, call-leaves, call-exactly}
+use Rattle.tables.proofs.OneToOne.{none-accepts, call-leaves, call-exactly}
+use Rattle.fresh.specs.Fresh.{freshHeader, freshBlock, freshRow}
+use Rattle.fresh.specs.declared.Made.the-variants as made
+use Rattle.fresh.proofs.Refusals.{one-made, not-done}
 use Rattle.process.specs.Process.{idle, startedAs}
 use Rattle.process.specs.declared.Process.{Process}
 use Rattle.process.specs.declared.StepAnswer.the-variants as steps

@@ -8,7 +8,7 @@ use mathlib.Core.List.{List, [], _∷_, _++_}
 use lib.ListN.{length, set, drop, replicate, length-append, length-replicate, length-drop}
 use mir.Val.{Val}
 use denote.Struct.Laws as LL
-use Rattle.tables.specs.Fresh.{overFront}
+use Rattle.tables.specs.Layout.{overFront}
 use Rattle.process.specs.declared.Process.{Process}
 use Rattle.process.proofs.Process as T
 use Rattle.process.proofs.Process.Laws as T′

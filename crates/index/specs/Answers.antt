@@ -1,8 +1,8 @@
 -- What each call answers, in document 01's numbers.
 use Prim.Native.Nat.{ℕ}
 use Rattle.tables.specs.Refusal.{numberOf}
-use Rattle.tables.specs.declared.fresh.Made.{Made}
-use Rattle.tables.specs.declared.fresh.Made.the-variants as made
+use Rattle.fresh.specs.declared.Made.{Made}
+use Rattle.fresh.specs.declared.Made.the-variants as made
 use Rattle.process.specs.Answer.{answerNumber}
 use Rattle.process.specs.declared.StepAnswer.{StepAnswer}
 use Rattle.process.specs.declared.StepAnswer.the-variants as steps

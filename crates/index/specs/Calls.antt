@@ -7,11 +7,11 @@ use lib.ListN.{length, getD, set}
 use Rattle.tables.specs.Choice.{Reason, reason, decide}
 use Rattle.tables.specs.Numbers.{kStored, numbersGood}
 use Rattle.tables.specs.Refusal.{refusal}
-use Rattle.tables.specs.Layout.{blockWords}
+use Rattle.tables.specs.Layout.{blockWords, overFront}
 use Rattle.tables.specs.Header.{headerOf}
-use Rattle.tables.specs.Fresh.{freshHeader, freshBlock, freshRow, overFront}
-use Rattle.tables.specs.declared.fresh.Made.{Made}
-use Rattle.tables.specs.declared.fresh.Made.the-variants as made
+use Rattle.fresh.specs.Fresh.{freshHeader, freshBlock, freshRow}
+use Rattle.fresh.specs.declared.Made.{Made}
+use Rattle.fresh.specs.declared.Made.the-variants as made
 use Rattle.process.specs.Process.{idle, startedAs}
 use Rattle.process.specs.declared.Process.{Process}
 use Rattle.process.specs.declared.StepAnswer.{StepAnswer}

@@ -3,9 +3,10 @@ use Prim.Native.Nat.{ℕ}
 use mathlib.Core.List.{List}
 use Rattle.tables.specs.Choice.{decide}
 use Rattle.tables.specs.Refusal.{refusal}
-use Rattle.tables.specs.Fresh.{freshHeader, freshBlock, overFront}
-use Rattle.tables.specs.declared.fresh.Made.{Made}
-use Rattle.tables.specs.declared.fresh.Made.the-variants as made
+use Rattle.tables.specs.Layout.{overFront}
+use Rattle.fresh.specs.Fresh.{freshHeader, freshBlock}
+use Rattle.fresh.specs.declared.Made.{Made}
+use Rattle.fresh.specs.declared.Made.the-variants as made
 use Rattle.index.specs.Calls.{makeReasons}
 use Rattle.index.specs.declared.Making.{Making}
 

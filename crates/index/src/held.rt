@@ -1,10 +1,10 @@
 // The same calls over a row that is held by value, for programs: their callers need no proof about a lent row.
 ghost use mathlib.Core.Path.{_≡_};
 ghost use Rattle.index.specs.Calls.{makeOut, makeCall, startOut, startCall, stepOut, stepCall};
+use fresh::Made;
 use points::start::StartAnswer;
 use process::Process;
 use process::StepAnswer;
-use tables::fresh::Made;
 
 pub struct HeldMade {
     pub row: [Process; 32],

@@ -3,18 +3,17 @@
 ghost use mathlib.Core.Path.{_≡_};
 ghost use Prim.Native.Nat.{_-_, _≤_};
 ghost use lib.ListN.{getD, set, length, replicate};
-ghost use Rattle.tables.specs.Fresh.{overFront};
+ghost use Rattle.tables.specs.Layout.{overFront};
 ghost use Rattle.process.specs.Process.{idle};
 ghost use Rattle.index.specs.Calls.{makeOut, makeCall, startOut, startCall, stepOut, stepCall};
 ghost use Rattle.index.specs.Parts.{makingOut, makingOf, countedOf};
 
 pub mod held;
 
+use fresh::Made;
 use points::start::StartAnswer;
 use process::Process;
 use process::StepAnswer;
-use tables::fresh;
-use tables::fresh::Made;
 use tables::numbers;
 use tables::numbers::Refusal;
 use tables::words;

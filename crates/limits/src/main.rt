@@ -1,4 +1,5 @@
 // Document 01, "To run only": what is tried at the limits, a line for each call and its answer behind it, all with 32 processes.
+use fresh::Made;
 use index::held;
 use libc::STDOUT_FILENO;
 use process::Process;
@@ -10,7 +11,6 @@ use script::write;
 use session::line;
 use session::line::Said;
 use session::text;
-use tables::fresh::Made;
 use tables::numbers;
 
 const HIGHEST_KEY: u32 = numbers::INFINITY - 1;

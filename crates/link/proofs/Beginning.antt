@@ -8,15 +8,15 @@ use native.Mathlib.Decide.{ℕ-discrete}
 use lib.ListN.{length, getD, drop, replicate, length-append, length-replicate, getD-replicate, List·getD-append}
 use lib.Seq.{getD-append-add}
 use Rattle.tables.specs.Numbers.{kStored, numbersGood, nodeWords, infinity}
-use Rattle.tables.specs.Layout.{blockWords, nodeAt, nodeWord, childPlace, pendingPlace}
+use Rattle.tables.specs.Layout.{blockWords, nodeAt, nodeWord, childPlace, pendingPlace, overFront}
 use Rattle.tables.specs.Header.{headerOf}
 use Rattle.tables.specs.Place.{inNode, Inside}
 use Rattle.tables.specs.Node.{imageWord, internalImage}
-use Rattle.tables.specs.Fresh.{freshHeader, headerImage, rootImage, dummyImage, freshBlock, overFront}
+use Rattle.fresh.specs.Fresh.{freshHeader, headerImage, rootImage, dummyImage, freshBlock}
 use Rattle.tables.specs.declared.header.Header.{Header}
 use Rattle.tables.proofs.Limits.{NumberLimits, number-limits}
 use Rattle.tables.proofs.Lists.{length-listed}
-use Rattle.tables.proofs.Making.{fresh-length}
+use Rattle.fresh.proofs.Making.{fresh-length}
 use Rattle.tables.proofs.Places.{place-below}
 use Rattle.process.specs.declared.Process.{Process}
 use Rattle.process.specs.Process.{idle}

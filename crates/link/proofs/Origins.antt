@@ -9,7 +9,7 @@ use lib.ListN.{length}
 use Rattle.tables.specs.Numbers.{kStored, numbersGood}
 use Rattle.tables.specs.Layout.{blockWords}
 use Rattle.tables.specs.Header.{headerOf}
-use Rattle.tables.specs.Fresh.{freshHeader}
+use Rattle.fresh.specs.Fresh.{freshHeader}
 use Rattle.tables.specs.declared.header.Header.{Header}
 use Rattle.process.specs.declared.Process.{Process}
 use Rattle.points.specs.Rows.{rowOf}

@@ -7,7 +7,8 @@ use lib.ListN.{getD}
 use Rattle.tables.specs.Choice.{pick, both}
 use Rattle.tables.specs.Numbers.{infinity}
 use Rattle.tables.specs.Header.{headerOf}
-use Rattle.tables.specs.Fresh.{freshHeader, freshBlock, freshRow, overFront}
+use Rattle.tables.specs.Layout.{overFront}
+use Rattle.fresh.specs.Fresh.{freshHeader, freshBlock, freshRow}
 use Rattle.tables.specs.declared.header.Header.{Header}
 use Rattle.process.specs.declared.Process.{Process}
 use Rattle.process.specs.declared.StepAnswer.{StepAnswer}

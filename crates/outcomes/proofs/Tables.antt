@@ -1,14 +1,12 @@
 -- One outcome for every public function of `tables`: the block.
 use Rattle.outcomes.specs.Outcome.{OneOutcome}
 use Rattle.outcomes.proofs.Law.{one, codes}
-use Rattle.tables.specs.Fresh.{MakeOut}
 use Rattle.tables.proofs.choice.and
 use Rattle.tables.proofs.choice.or
 use Rattle.tables.proofs.choice.at_most
 use Rattle.tables.proofs.choice.below
 use Rattle.tables.proofs.choice.same
 use Rattle.tables.proofs.choice.within
-use Rattle.tables.proofs.fresh.make_block
 use Rattle.tables.proofs.header.depth
 use Rattle.tables.proofs.header.node_at
 use Rattle.tables.proofs.header.child_at
@@ -72,9 +70,6 @@ same-one w κs a o o′ = one same.ended κs a (search codes depth 9) (λ x. (x,
 
 pub within-one : OneOutcome within.ended (λ M. within.clauses {M = M})
 within-one w κs a o o′ = one within.ended κs a (search codes depth 9) (λ x. (x, o .1))
-
-pub make-block-one : OneOutcome make_block.ended (λ M. make_block.clauses {M = M})
-make-block-one w κs a o o′ = one make_block.ended κs a (search codes depth 9) (λ (x : MakeOut). (x .made, (x .block, o .1 .1)))
 
 pub depth-one : OneOutcome depth.ended (λ M. depth.clauses {M = M})
 depth-one w κs a o o′ = one depth.ended κs a (search codes depth 9) (λ x. (x, o .1))

@@ -4,7 +4,7 @@ use mathlib.Core.List.{List, [], _∷_, _++_, map}
 use lib.ListN.{replicate}
 use Rattle.tables.specs.Layout.{nodeWord}
 use Rattle.tables.specs.Header.{headerOf}
-use Rattle.tables.specs.Fresh.{freshHeader, freshBlock}
+use Rattle.fresh.specs.Fresh.{freshHeader, freshBlock}
 use Rattle.process.specs.Process.{idle}
 use Rattle.process.specs.Answer.{answerNumber}
 use Rattle.process.specs.declared.Process.{Process}

@@ -6,9 +6,9 @@ use mathlib.Core.List.{List}
 use native.Mathlib.Omega.{arith}
 use lib.ListN.{length, getD, List·getD-eq-default}
 use Rattle.tables.specs.Choice.{pick}
-use Rattle.tables.specs.declared.fresh.Made.the-variants as made
 use Rattle.tables.specs.declared.numbers.Refusal.{Refusal}
 use Rattle.tables.specs.declared.numbers.Refusal.the-variants.{MakingNumber, NotInForm}
+use Rattle.fresh.specs.declared.Made.the-variants as made
 use Rattle.process.specs.Process.{idle}
 use Rattle.process.specs.Answer.{answerNumber}
 use Rattle.process.specs.declared.Process.{Process}

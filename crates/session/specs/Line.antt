@@ -7,8 +7,8 @@ use lib.ListN.{replicate}
 use Rattle.tables.specs.Choice.{pick, both}
 use Rattle.tables.specs.Header.{headerOf}
 use Rattle.tables.specs.Refusal.{refusal}
-use Rattle.tables.specs.declared.fresh.Made.{Made}
-use Rattle.tables.specs.declared.fresh.Made.the-variants as made
+use Rattle.fresh.specs.declared.Made.{Made}
+use Rattle.fresh.specs.declared.Made.the-variants as made
 use Rattle.process.specs.Process.{idle}
 use Rattle.process.specs.Answer.{answerNumber}
 use Rattle.process.specs.declared.Process.{Process}

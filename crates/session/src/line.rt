@@ -4,6 +4,7 @@ ghost use Rattle.index.specs.Calls.{recordOf, stepOut};
 ghost use Rattle.session.specs.Line.{withinBench, begun, turnOf, did, done, endedBy, refusedBy, makingDone, firstDone, startDone, goesOn, stepsOf, stepsSaid, stepsDone, listDone, laterDone, lineDone, isOver, finished};
 ghost use Rattle.session.specs.declared.line.Said.the-variants.{Refused};
 ghost use Rattle.session.specs.declared.line.Stage.the-variants.{Ended, Made as MadeStage};
+use fresh::Made;
 use index::Listed;
 use index::held;
 use index::held::HeldStep;
@@ -17,7 +18,6 @@ use script::lines::Making;
 use script::lines::StartLine;
 use script::lines::StepLine;
 use tables::choice;
-use tables::fresh::Made;
 use tables::numbers::Refusal;
 use tables::words;
 

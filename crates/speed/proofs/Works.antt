@@ -8,8 +8,8 @@ use borrow.Author.Tests.{not-true, not-false, eq-eqb, ne-eqb}
 use lib.Dec.{ltb, eqb}
 use lib.ListN.{replicate}
 use Rattle.tables.specs.Choice.{pick}
-use Rattle.tables.specs.declared.fresh.Made.{Made}
 use Rattle.tables.proofs.Lists.{left-over}
+use Rattle.fresh.specs.declared.Made.{Made}
 use Rattle.process.specs.Process.{idle}
 use Rattle.process.specs.declared.Process.{Process}
 use Rattle.index.specs.Calls.{MakeOut, makeOut, makeCall}

@@ -12,9 +12,8 @@ use borrow.Author.Tests.{lt-ltb, le-ltb, eq-eqb, ne-eqb}
 use Rattle.tables.specs.Choice.{pick, Reason, reason, NoneHolds, none, nor, First, either}
 use Rattle.tables.specs.Numbers.{infinity}
 use Rattle.tables.specs.Keys.{holds}
-use Rattle.tables.specs.Layout.{blockWords}
+use Rattle.tables.specs.Layout.{blockWords, overFront}
 use Rattle.tables.specs.Header.{headerOf, blockReasons}
-use Rattle.tables.specs.Fresh.{overFront}
 use Rattle.tables.specs.declared.header.Header.{Header}
 use Rattle.tables.specs.declared.numbers.Refusal.{Refusal}
 use Rattle.tables.specs.declared.numbers.Refusal.the-variants.{ListTooShort, InfinityGiven, LowAboveHigh}

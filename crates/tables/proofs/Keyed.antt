@@ -98,6 +98,9 @@ pub route-none : (b : List ℕ) (h : Header) (node x : ℕ) → h .k ≡ 0 → 1
 unfolding listed firstAt
 route-none b h node x e = rw e refl
 
+pub route-is : (b : List ℕ) (h : Header) (node x m : ℕ) → m ≡ greaterAt x (keysOf b h node (h .k - 1)) → m + 1 ≡ routeOf b h node x
+route-is b h node x m e = ap (λ (i : ℕ). i + 1) e
+
 -- what stands at i, before and behind a place at which a list is cut
 module _ (ks : List ℕ) (at : ℕ) (p : at ≤ length ks) where
   before-cut : (rest : List ℕ) (i : ℕ) → i < at → getD (take at ks ++ rest) i 0 ≡ getD ks i 0
@@ -200,10 +203,6 @@ module _ (b : List ℕ) (h : Header) (node count i : ℕ) (p : count ≤ i) wher
 
   pub equal-end : (key : ℕ) → equalAt key (keysOf b h node count) ≡ i + equalAt key (drop i (keysOf b h node count)) → i ≡ equalAt key (keysOf b h node count)
   equal-end key inv = first-none (keysOf b h node count) count (keys-length b h node count) i _ inv p
-
-pub ruleset rising = (rises-false, rises-on, rises-end)
-
-pub ruleset firsts = (greater-here, greater-on, greater-end, equal-here, equal-on, equal-end)
 
 module _ (ks : List ℕ) (count i : ℕ) where
   pub leaf-key : (x : ℕ) (r : List ℕ) → i < count → x ≡ getD ks i 0 → r ≡ keyArray (x ∷ []) → r ≡ sproutLeaf ks count i

@@ -1,4 +1,4 @@
--- The laws of the tables: choices, lists, header, numbers and words, nodes, keys, the fresh block, places, examples. Callers' proofs cite them.
+-- The laws of the tables: choices, lists, header, numbers and words, nodes, keys, places. Callers' proofs cite them.
 pub mod Picks
 pub mod Lists
 pub mod Limits
@@ -6,6 +6,4 @@ pub mod OneToOne
 pub mod Written
 pub mod Stored
 pub mod Keyed
-pub mod Making
 pub mod Places
-pub mod Examples

@@ -106,26 +106,6 @@ module _ (h : Header) (t : Bool) (e : t ≡ headerGood h) (y : t ≡ true) where
   pub recordsused-fits : Fits w16 (h .recordsused)
   recordsused-fits = record { fits = omega (arith, the-limits) }
 
--- the same at making, with the k that is stored
-module _ (k p n r : ℕ) (t : Bool) (e : t ≡ numbersGood k p n r) (y : t ≡ true) where
-  the-numbers : NumberLimits k p n r
-  the-numbers = number-limits k p n r (sym e ∙ y)
-
-  pub k-small : Fits w8 k
-  k-small = record { fits = omega (arith, the-numbers) }
-
-  pub processes-small : Fits w8 p
-  processes-small = record { fits = omega (arith, the-numbers) }
-
-  pub nodes-small : Fits w16 n
-  nodes-small = record { fits = omega (arith, the-numbers) }
-
-  pub fresh-small : (u : ℕ) → u ≡ freshNodes k → Fits w16 u
-  fresh-small u f = record { fits = omega (arith, the-numbers) }
-
-  pub records-small : Fits w16 r
-  records-small = record { fits = omega (arith, the-numbers) }
-
 pub read-short : (b : List ℕ) → length b < 6 → Refused TooShort ≡ headerRead b
 unfolding pick
 read-short b p = cc (lt-ltb (length b) 6 p)
@@ -142,8 +122,6 @@ module _ (b : List ℕ) (t : Bool) (long : 6 ≤ length b) (e : t ≡ headerGood
   pub read-good : (w : ℕ) → t ≡ true → w ≡ blockWords (headerOf b) → w ≤ length b → Good (headerOf b) ≡ headerRead b
   unfolding pick
   read-good w f g p = cc (le-ltb (length b) 6 long, le-ltb (length b) w p)
-
-pub ruleset reading = (read-short, read-bad, read-cut, read-good)
 
 pub depth-none : (n k : ℕ) → k ≡ 0 → 0 ≡ (n - freshNodes k) / k
 depth-none n k e = rw e (sym (div-zero _))

@@ -1,15 +1,13 @@
--- Laws of lists as tables: reads and writes past the end, a list by its index, a front laid over a list, and the turns of loops that fill.
+-- Laws of lists as tables: reads and writes past the end, a list by its index, and the turns of loops that fill.
 use Prim.Native.Nat.{ℕ, zero, suc, _+_, _-_, _≤_, _<_}
 use mathlib.Core.Path.{_≡_, refl, sym, ap, _∙_}
 use mathlib.Core.List.{List, [], _∷_, _++_, append-nil}
 use native.Mathlib.Omega.{arith}
 use native.Mathlib.Numerals.{add-one}
 use native.Mathlib.Nat.{not-suc-le-zero, le-of-suc-le-suc, add-zero, sub-eq-zero-of-le}
-use lib.ListN.{length, getD, set, take, drop, replicate, length-replicate, List·getD-eq-default, drop-of-length-le}
-use borrow.Author.Fill.{fill-more}
+use lib.ListN.{length, getD, set, take, drop, List·getD-eq-default, drop-of-length-le}
 use lib.Seq.{sets, set-out, take-all, drop-cons}
 use Rattle.tables.specs.Choice.{listed}
-use Rattle.tables.specs.Fresh.{overFront}
 
 pub get-past : (b : List ℕ) (i : ℕ) → length b ≤ i → 0 ≡ getD b i 0
 get-past b i p = sym (List·getD-eq-default b 0 p)
@@ -80,14 +78,3 @@ sets-done f b₀ b base o n inv p = sym (inv ∙ rw (sub-eq-zero-of-le p))
 
 pub sets-start : (f : ℕ → ℕ) (b : List ℕ) (base n : ℕ) → sets b (base + 0) (listed f 0 n) ≡ sets b (base + 0) (listed f 0 (n - 0))
 sets-start f b base n = let e : n - 0 ≡ n = omega arith in rw e refl
-
-pub ruleset setting = (sets-again, sets-done)
-
--- a loop that clears the front of a list, word by word
-pub clear-again : (b₀ b : List ℕ) (i : ℕ) → b ≡ replicate i 0 ++ drop i b₀ → i < length b₀ → set b i 0 ≡ replicate (i + 1) 0 ++ drop (i + 1) b₀
-clear-again b₀ b i e p = rw e (fill-more i 0 b₀ p)
-
-pub clear-done : (b₀ b : List ℕ) (i n : ℕ) → b ≡ replicate i 0 ++ drop i b₀ → i ≤ n → n ≤ i → b ≡ overFront (replicate n 0) b₀
-clear-done b₀ b i n e p q = let z : i ≡ n = omega arith in e ∙ rw (z, length-replicate {A = ℕ} n 0) refl
-
-pub ruleset clearing = (clear-again, clear-done)

@@ -15,9 +15,7 @@ use Rattle.tables.specs.declared.numbers.Refusal.the-variants.{MakingNum
 use Rattle.tables.specs.declared.pending.Pending.{Pending}
 use Rattle.tables.specs.declared.pending.Pending.the-variants.{Clean, Replace, Prune, Mark}
 use Rattle.tables.specs.Header.{headerOf, blockReasons, headerRead}
-use Rattle.tables.specs.Fresh.{freshHeader, freshBlock, overFront, makingReasons, MakeOut, makeOut, makeOf}
 use Rattle.tables.specs.declared.header.HeaderRead.the-variants.{Good, Refused}
-use Rattle.tables.specs.declared.fresh.Made.the-variants.{Done, Refused as MadeRefused}
 use Rattle.tables.proofs.Picks.{both-1, both-2, within-low, within-high}
 use Rattle.tables.proofs.Lists.{getD-listed}
 
@@ -176,19 +174,7 @@ module _ {O A : Type 0} (answer : O → A) (say : Refusal → A) (leave : Refusa
   pub call-exactly : (answer call ≡ say e) ↔ First (numberOf e) rs
   call-exactly = (call-first, λ f. ap answer (first-answers leave accepting rs e f) ∙ says e)
 
--- this crate's calls that refuse
+-- this crate's call that refuses
 pub read-refused : (b : List ℕ) (e : Refusal) → headerRead b ≡ Refused e → First (numberOf e) (blockReasons b)
 unfolding both
 read-refused b e = answers-first Refused (Good (headerOf b)) (blockReasons b) e (λ d p. cc) (λ p. let z : _≡_ {A = ℕ} 0 1 = cc in omega arith) refl
-
-pub one-made : (d e : Refusal) → MadeRefused d ≡ MadeRefused e → d ≡ e
-one-made d e q = cc
-
-pub not-done : (e : Refusal) → Done ≡ MadeRefused e → ⊥
-not-done e q = let z : _≡_ {A = ℕ} 0 1 = cc in omega arith
-
-pub make-refused : (b : List ℕ) (k p n r : ℕ) (e : Refusal) → makeOf b k p n r ≡ makeOut (MadeRefused e) b → First (numberOf e) (makingReasons b k p n r)
-unfolding both
-make-refused b k p n r e =
-    answers-first (λ d. makeOut (MadeRefused d) b) (makeOut Done (overFront (freshBlock (freshHeader k p n r)) b)) (makingReasons b k p n r) e
-    (λ d q. one-made d e (ap (λ (o : MakeOut). o .made) q)) (λ q. not-done e (ap (λ (o : MakeOut). o .made) q)) refl

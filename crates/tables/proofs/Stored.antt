@@ -1,18 +1,24 @@
--- Words read at their addresses, and words of the header stored one after another: laws return by return.
-use Prim.Native.Nat.{ℕ}
+-- Where words are stored, and words read there: laws return by return.
+use Prim.Native.Nat.{ℕ, _+_, _*_}
 use mathlib.Core.Path.{_≡_, refl, ap, _∙_}
 use mathlib.Core.Bool.{Bool}
-use mathlib.Core.List.{List, [], _∷_}
+use mathlib.Core.List.{List}
 use lib.Dec.{eqb}
-use lib.ListN.{getD, set}
-use lib.Seq.{sets}
+use lib.ListN.{getD}
 use Rattle.tables.specs.Choice.{both}
 use Rattle.tables.specs.Layout.{kindField, childWord, recordWord}
 use Rattle.tables.specs.Pending.{recordInUse, recordOfKind}
 use Rattle.tables.specs.Node.{belowOf, childOf}
-use Rattle.tables.specs.Fresh.{headerImage}
 use Rattle.tables.specs.declared.header.Header.{Header}
 use Rattle.tables.specs.declared.node.Child.{Child}
+
+-- a length, or an address, summed up: where an area begins, its rows so far, and the word in the row
+module _ (from s t a b rows size : ℕ) (e : s ≡ from) (f : t ≡ a * b) (g : a ≡ rows) (i : b ≡ size) where
+  pub rows-on : s + t ≡ from + rows * size
+  rows-on = rw (f, g, i, e) refl
+
+  pub word-on : (o : ℕ) → s + t + o ≡ from + rows * size + o
+  word-on o = rw rows-on refl
 
 pub word-is : (b : List ℕ) (at place r : ℕ) → at ≡ place → r ≡ getD b at 0 → r ≡ getD b place 0
 word-is b at place r e f = f ∙ ap (λ (i : ℕ). getD b i 0) e
@@ -24,11 +30,3 @@ module _ (b : List ℕ) (h : Header) where
   pub kind-is : (number kind word : ℕ) (s t u : Bool) → s ≡ recordInUse h number → word ≡ recordWord b h number kindField → t ≡ eqb word kind → u ≡ both s t →
       u ≡ recordOfKind b h number kind
   kind-is number kind word s t u e f g i = i ∙ rw (e, g, f) refl
-
--- three words, and the two halves of the header
-pub three-stored : (b c d e : List ℕ) (i j l x y z : ℕ) → c ≡ set b i x → d ≡ set c j y → e ≡ set d l z → e ≡ set (set (set b i x) j y) l z
-three-stored b c d e i j l x y z f g k = k ∙ rw (g, f) refl
-
-pub halves-stored : (b c d : List ℕ) (h : Header) → c ≡ sets b 0 (h .k ∷ h .processes ∷ h .nodes ∷ []) → d ≡ sets c 3 (h .nodesused ∷ h .records ∷ h .recordsused ∷ []) →
-    d ≡ sets b 0 (headerImage h)
-halves-stored b c d h e f = f ∙ rw e refl

@@ -1,7 +1,7 @@
 -- Document 01, "Tables": where each word of a block stands. Header, then nodes, records, help stacks; all numbers count from 1.
 use Prim.Native.Nat.{ℕ, _+_, _*_, _-_, _/_}
-use mathlib.Core.List.{List}
-use lib.ListN.{getD}
+use mathlib.Core.List.{List, _++_}
+use lib.ListN.{length, getD, drop}
 use Rattle.tables.specs.Numbers.{freshNodes, headerWords, nodeWords, recordWords}
 use Rattle.tables.specs.declared.header.Header.{Header}
 
@@ -19,6 +19,10 @@ stacksFrom h = recordsFrom h + h .records * recordWords
 -- "Length: 6 + nodes·(2k+1) + 8·records + processes·D words"
 abbrev pub blockWords : Header → ℕ
 blockWords h = stacksFrom h + h .processes * depthOf h
+
+-- "Words and records beyond those needed are untouched."
+abbrev pub overFront : {A : Type 0} → List A → List A → List A
+overFront new old = new ++ drop (length new) old
 
 -- the word at an offset of a node; of a record; the word d, from 0, of a process's help stack
 abbrev pub nodeAt : Header → ℕ → ℕ → ℕ

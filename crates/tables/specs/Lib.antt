@@ -8,4 +8,3 @@ pub mod Header
 pub mod Pending
 pub mod Node
 pub mod Keys
-pub mod Fresh

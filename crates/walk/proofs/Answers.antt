@@ -9,7 +9,7 @@ use borrow.Author.Tests.{le-leb}
 use lib.ListN.{length, take}
 use Rattle.tables.specs.Choice.{pick, both, either, within, Verdict, refused, accepted, verdict, told, NoneHolds, First}
 use Rattle.tables.specs.Refusal.{numberOf, refusal}
-use Rattle.tables.specs.Fresh.{overFront}
+use Rattle.tables.specs.Layout.{overFront}
 use Rattle.tables.specs.declared.numbers.Refusal.{Refusal}
 use Rattle.tables.proofs.OneToOne.{refusal-number, none-accepts, tells, accepted-none, first-answers, answers-first}
 use Rattle.tables.proofs.Picks.{either-some, within-low, within-high}

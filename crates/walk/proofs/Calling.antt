@@ -11,7 +11,7 @@ use Rattle.tables.specs.Choice.{pick, Reason, decide}
 use Rattle.tables.specs.Numbers.{infinity}
 use Rattle.tables.specs.Refusal.{refusal}
 use Rattle.tables.specs.Header.{headerOf, headerRead}
-use Rattle.tables.specs.Fresh.{overFront}
+use Rattle.tables.specs.Layout.{overFront}
 use Rattle.tables.specs.declared.header.Header.{Header}
 use Rattle.tables.specs.declared.header.HeaderRead.{HeaderRead}
 use Rattle.tables.specs.declared.header.HeaderRead.the-variants.{Good, Refused}

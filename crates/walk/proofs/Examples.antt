@@ -7,8 +7,8 @@ use Rattle.tables.specs.Choice.{pick, both, listed}
 use Rattle.tables.specs.Numbers.{numbersGood}
 use Rattle.tables.specs.Header.{headerGood}
 use Rattle.tables.specs.Keys.{rises}
-use Rattle.tables.specs.Fresh.{freshHeader, freshBlock}
 use Rattle.tables.specs.declared.numbers.Refusal.the-variants.{Damaged, InfinityGiven, ListTooShort, LowAboveHigh}
+use Rattle.fresh.specs.Fresh.{freshHeader, freshBlock}
 use Rattle.walk.specs.Walk.{inOrder, walkOf}
 use Rattle.walk.specs.Calls.{listOut, listOf, partOf, anyWithin, rangeOf}
 use Rattle.walk.specs.declared.Listed.the-variants.{Count, Refused as ListRefused}

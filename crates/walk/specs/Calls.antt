@@ -8,7 +8,7 @@ use Rattle.tables.specs.Choice.{pick, either, within, Reason, reason, decide}
 use Rattle.tables.specs.Numbers.{infinity}
 use Rattle.tables.specs.Refusal.{refusal}
 use Rattle.tables.specs.Header.{headerOf, blockReasons}
-use Rattle.tables.specs.Fresh.{overFront}
+use Rattle.tables.specs.Layout.{overFront}
 use Rattle.tables.specs.declared.header.Header.{Header}
 use Rattle.walk.specs.Walk.{walked}
 use Rattle.walk.specs.Answer.{cleared}

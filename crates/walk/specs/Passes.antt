@@ -7,7 +7,7 @@ use lib.ListN.{length}
 use lib.Seq.{sets}
 use Rattle.tables.specs.Choice.{pick, both, either, decide}
 use Rattle.tables.specs.Refusal.{refusal}
-use Rattle.tables.specs.Fresh.{overFront}
+use Rattle.tables.specs.Layout.{overFront}
 use Rattle.tables.specs.declared.header.Header.{Header}
 use Rattle.walk.specs.Walk.{Walk, walked}
 use Rattle.walk.specs.Answer.{cleared}

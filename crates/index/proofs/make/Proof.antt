@@ -42,10 +42,10 @@ use Rattle.process.specs.Process.{idle}
 use Rattle.process.specs.declared.Process.{Process}
 use Rattle.process.proofs.Process as T
 use Rattle.process.proofs.Process.Laws as T′
-use Rattle.tables.specs.Fresh.{overFront}
-use Rattle.tables.specs.declared.fresh.Made.{Made}
-use Rattle.tables.proofs.fresh.Made as R
-use Rattle.tables.proofs.fresh.Made.Laws as R′
+use Rattle.tables.specs.Layout.{overFront}
+use Rattle.fresh.specs.declared.Made.{Made}
+use Rattle.fresh.proofs.Made as R
+use Rattle.fresh.proofs.Made.Laws as R′
 use Rattle.index.specs.Calls.{makeOut, makeCall}
 use Rattle.index.specs.Parts.{makingOut, makingOf}
 use Rattle.index.specs.declared.Making.{Making}

@@ -1,5 +1,6 @@
 -- The proof that `ends` keeps its contract.
 use borrow.Author.Needs.{needs}
+use Rattle.process.proofs.Laws.{ending-is}
 use Rattle.process.proofs.ends.Statement.{statement}
 use Rattle.process.proofs.ends.Tie as tie
 
@@ -9,5 +10,5 @@ ends-spec =
     (tie.spec
     (λ c κs. search needs)  -- steps-up-requires
     (λ c κs. search needs)  -- idle-record-requires
-    (λ c. cc)  -- returns
+    (λ c. search ending-is)  -- returns
     )

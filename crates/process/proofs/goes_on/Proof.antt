@@ -1,5 +1,6 @@
 -- The proof that `goes_on` keeps its contract.
 use borrow.Author.Needs.{needs}
+use Rattle.process.proofs.Laws.{going-is}
 use Rattle.process.proofs.goes_on.Statement.{statement}
 use Rattle.process.proofs.goes_on.Tie as tie
 
@@ -8,5 +9,5 @@ goes-on-spec =
     tie.close
     (tie.spec
     (λ c κs. search needs)  -- steps-up-requires
-    (λ c. cc)  -- returns
+    (λ c. search going-is)  -- returns
     )

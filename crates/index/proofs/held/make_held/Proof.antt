@@ -45,9 +45,9 @@ use denote.Exit.{yes}
 use Rattle.process.specs.declared.Process.{Process}
 use Rattle.process.proofs.Process as T
 use Rattle.process.proofs.Process.Laws as T′
-use Rattle.tables.specs.declared.fresh.Made.{Made}
-use Rattle.tables.proofs.fresh.Made as R
-use Rattle.tables.proofs.fresh.Made.Laws as R′
+use Rattle.fresh.specs.declared.Made.{Made}
+use Rattle.fresh.proofs.Made as R
+use Rattle.fresh.proofs.Made.Laws as R′
 use Rattle.index.specs.Calls.{makeOut, makeCall}
 use Rattle.index.specs.declared.held.HeldMade.{HeldMade}
 use Rattle.index.proofs.held.HeldMade as S

@@ -1,5 +1,6 @@
 -- The proof that `choice::within` keeps its contract.
 use borrow.Author.Needs.{needs}
+use Rattle.tables.proofs.Picks.{both-of}
 use Rattle.tables.proofs.choice.within.Statement.{statement}
 use Rattle.tables.proofs.choice.within.Tie as tie
 
@@ -10,5 +11,5 @@ within-spec =
     (λ c κs. search needs)  -- at-most-requires
     (λ c κs. search needs)  -- at-most-requires-2
     (λ c κs. search needs)  -- and-requires
-    (λ c. cc)  -- returns
+    (λ c. search both-of)  -- returns
     )

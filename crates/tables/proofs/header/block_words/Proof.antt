@@ -1,5 +1,6 @@
 -- The proof that `header::block_words` keeps its contract.
 use borrow.Author.Needs.{needs}
+use Rattle.tables.proofs.Stored.{rows-on}
 use Rattle.tables.proofs.header.block_words.Statement.{statement}
 use Rattle.tables.proofs.header.block_words.Tie as tie
 
@@ -13,5 +14,5 @@ block-words-spec =
     (λ c. search needs)  -- cast-times-2
     (λ c κs. search needs)  -- times-requires
     (λ c. search needs)  -- add-result
-    (λ c. cc)  -- returns
+    (λ c. search rows-on)  -- returns
     )

@@ -1,6 +1,7 @@
 -- The proof that `header::node_from` keeps its contract.
 use borrow.Author.Needs.{needs}
 use native.Mathlib.Omega.{arith}
+use Rattle.tables.proofs.Stored.{rows-on}
 use Rattle.tables.proofs.header.node_from.Statement.{statement}
 use Rattle.tables.proofs.header.node_from.Tie as tie
 
@@ -12,5 +13,5 @@ node-from-spec =
     (λ c κs. search needs)  -- node-words-requires
     (λ c κs. search needs)  -- times-requires
     (λ c. search needs)  -- add-result
-    (λ c. (cc, omega arith))  -- returns
+    (λ c. (search rows-on, omega arith))  -- returns
     )

@@ -1,6 +1,6 @@
 -- The proof that `header::read_header` keeps its contract.
 use borrow.Author.Needs.{needs}
-use Rattle.tables.proofs.Limits.{reading, k-fits, processes-fits, nodes-fits, nodesused-fits, records-fits, recordsused-fits}
+use Rattle.tables.proofs.Limits.{read-short, read-bad, read-cut, read-good, k-fits, processes-fits, nodes-fits, nodesused-fits, records-fits, recordsused-fits}
 use Rattle.tables.proofs.header.read_header.Statement.{statement}
 use Rattle.tables.proofs.header.read_header.Tie as tie
 
@@ -8,7 +8,7 @@ pub read-header-spec : {M : Type 1} → statement M
 read-header-spec =
     tie.close
     (tie.spec
-    (λ c. search (needs, reading))  -- returns
+    (λ c. search read-short)  -- returns
     (λ c. search needs)  -- shared-slice-read-k
     (λ c. search needs)  -- shared-slice-read-processes
     (λ c. search needs)  -- shared-slice-read-nodes
@@ -23,7 +23,7 @@ read-header-spec =
     (λ c. records-fits _ _ (c .before .header-good .ensures) (c .if2 .taken))  -- cast-t26
     (λ c. recordsused-fits _ _ (c .before .header-good .ensures) (c .if2 .taken))  -- cast-t27
     (λ c κs. search needs)  -- block-words-requires
-    (λ c. search (needs, reading))  -- returns-2
-    (λ c. search (needs, reading))  -- returns-3
-    (λ c. search (needs, reading))  -- returns-4
+    (λ c. search read-cut)  -- returns-2
+    (λ c. search read-good)  -- returns-3
+    (λ c. search read-bad)  -- returns-4
     )

@@ -1,5 +1,6 @@
 -- The proof that `header::stack_at` keeps its contract.
 use borrow.Author.Needs.{needs}
+use Rattle.tables.proofs.Stored.{word-on}
 use Rattle.tables.proofs.header.stack_at.Statement.{statement}
 use Rattle.tables.proofs.header.stack_at.Tie as tie
 
@@ -14,5 +15,5 @@ stack-at-spec =
     (λ c κs. search needs)  -- times-requires
     (λ c. search needs)  -- add-result
     (λ c. search needs)  -- add-result-2
-    (λ c. cc)  -- returns
+    (λ c. search word-on)  -- returns
     )

@@ -4,7 +4,7 @@ use mathlib.Core.Path.{_≡_}
 use Prim.Native.Nat.{_≤_, _-_, _+_}
 use lib.ListN.{drop}
 use Rattle.tables.specs.Keys.{keysOf, greaterAt}
-use Rattle.tables.proofs.Keyed.{firsts, first-start}
+use Rattle.tables.proofs.Keyed.{greater-here, greater-on, greater-end, first-start}
 use Rattle.tables.proofs.keys.greater_at.Statement.{statement}
 use Rattle.tables.proofs.keys.greater_at.Tie as tie
 
@@ -21,11 +21,11 @@ greater-at-spec =
     Inv-loop
     μ-loop
     (λ c. search (needs, first-start))  -- loop-holds
-    (λ c. search (needs, firsts))  -- add-key-word
-    (λ c κs. search (needs, firsts))  -- key-word-requires
-    (λ c. search (needs, firsts))  -- returns
-    (λ c. search (needs, firsts))  -- add-i
-    (λ c. search (needs, firsts))  -- loop-less
-    (λ c. search (needs, firsts))  -- loop-again
-    (λ c. search (needs, firsts))  -- returns-2
+    (λ c. search needs)  -- add-key-word
+    (λ c κs. search needs)  -- key-word-requires
+    (λ c. search greater-here)  -- returns
+    (λ c. search needs)  -- add-i
+    (λ c. search needs)  -- loop-less
+    (λ c. (search needs, search greater-on))  -- loop-again
+    (λ c. search greater-end)  -- returns-2
     )

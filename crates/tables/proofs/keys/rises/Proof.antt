@@ -4,7 +4,7 @@ use mathlib.Core.Path.{_≡_}
 use Prim.Native.Nat.{_≤_, _-_}
 use lib.ListN.{drop}
 use Rattle.tables.specs.Keys.{keysOf, rises}
-use Rattle.tables.proofs.Keyed.{rising}
+use Rattle.tables.proofs.Keyed.{rises-false, rises-on, rises-end}
 use Rattle.tables.proofs.keys.rises.Statement.{statement}
 use Rattle.tables.proofs.keys.rises.Tie as tie
 
@@ -20,14 +20,14 @@ rises-spec =
     (tie.spec
     Inv-loop
     μ-loop
-    (λ c. search (needs, rising))  -- loop-holds
-    (λ c. search (needs, rising))  -- add-key-word
-    (λ c κs. search (needs, rising))  -- key-word-requires
-    (λ c. search (needs, rising))  -- add-key-or
-    (λ c κs. search (needs, rising))  -- key-or-requires
-    (λ c. search (needs, rising))  -- returns
-    (λ c. search (needs, rising))  -- add-i
-    (λ c. search (needs, rising))  -- loop-less
-    (λ c. search (needs, rising))  -- loop-again
-    (λ c. search (needs, rising))  -- returns-2
+    (λ c. search needs)  -- loop-holds
+    (λ c. search needs)  -- add-key-word
+    (λ c κs. search needs)  -- key-word-requires
+    (λ c. search needs)  -- add-key-or
+    (λ c κs. search needs)  -- key-or-requires
+    (λ c. search rises-false)  -- returns
+    (λ c. search needs)  -- add-i
+    (λ c. search needs)  -- loop-less
+    (λ c. (search needs, search rises-on))  -- loop-again
+    (λ c. search rises-end)  -- returns-2
     )

@@ -1,7 +1,7 @@
 -- The proof that `keys::route` keeps its contract.
 use borrow.Author.Needs.{needs}
 use native.Mathlib.Omega.{arith}
-use Rattle.tables.proofs.Keyed.{first-of, route-none}
+use Rattle.tables.proofs.Keyed.{first-of, route-none, route-is}
 use Rattle.tables.proofs.keys.route.Statement.{statement}
 use Rattle.tables.proofs.keys.route.Tie as tie
 
@@ -13,5 +13,5 @@ route-spec =
     (λ c. search needs)  -- sub-greater-at
     (λ c κs. search needs)  -- greater-at-requires
     (λ c. omega (arith, first-of _ _ _ _ _ (c .greater-at .ensures)))  -- add-result
-    (λ c. cc)  -- returns-2
+    (λ c. search route-is)  -- returns-2
     )

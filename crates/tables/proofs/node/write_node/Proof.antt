@@ -7,7 +7,7 @@ use lib.ListN.{length}
 use lib.Seq.{sets}
 use Rattle.tables.specs.Choice.{listed}
 use Rattle.tables.specs.Node.{imageWord}
-use Rattle.tables.proofs.Lists.{setting, sets-start}
+use Rattle.tables.proofs.Lists.{sets-start, sets-again, sets-done}
 use Rattle.tables.proofs.node.write_node.Statement.{statement}
 use Rattle.tables.proofs.node.write_node.Tie as tie
 
@@ -23,16 +23,16 @@ write-node-spec =
     (tie.spec
     Inv-loop
     μ-loop
-    (λ c. search (needs, setting))  -- cast-n
-    (λ c. search (needs, setting))  -- mul-n
-    (λ c. search (needs, setting))  -- add-n
+    (λ c. search needs)  -- cast-n
+    (λ c. search needs)  -- mul-n
+    (λ c. search needs)  -- add-n
     (λ c. search (needs, sets-start))  -- loop-holds
-    (λ c κs. search (needs, setting))  -- image-word-requires
-    (λ c κs. search (needs, setting))  -- node-at-requires
-    (λ c κs. search (needs, setting))  -- put-at-requires
-    (λ c. search (needs, setting))  -- add-o
-    (λ c. search (needs, setting))  -- loop-less
-    (λ c. (search needs, (omega arith, search setting)))  -- loop-again
-    (λ c. search (needs, setting))  -- same-length
-    (λ c. search (needs, setting))  -- returns
+    (λ c κs. search needs)  -- image-word-requires
+    (λ c κs. search needs)  -- node-at-requires
+    (λ c κs. search needs)  -- put-at-requires
+    (λ c. search needs)  -- add-o
+    (λ c. search needs)  -- loop-less
+    (λ c. (search needs, (omega arith, search sets-again)))  -- loop-again
+    (λ c. search needs)  -- same-length
+    (λ c. search sets-done)  -- returns
     )

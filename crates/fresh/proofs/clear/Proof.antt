@@ -1,13 +1,13 @@
--- The proof that `fresh::clear` keeps its contract.
+-- The proof that `clear` keeps its contract.
 use borrow.Author.Needs.{needs}
 use mathlib.Core.Path.{_≡_}
 use mathlib.Core.List.{_++_}
 use Prim.Native.Nat.{_≤_, _-_}
 use lib.ListN.{length, length-set, drop, replicate}
 use native.Mathlib.Omega.{arith}
-use Rattle.tables.proofs.Lists.{clearing, clear-again}
-use Rattle.tables.proofs.fresh.clear.Statement.{statement}
-use Rattle.tables.proofs.fresh.clear.Tie as tie
+use Rattle.fresh.proofs.Stored.{clearing, clear-again}
+use Rattle.fresh.proofs.clear.Statement.{statement}
+use Rattle.fresh.proofs.clear.Tie as tie
 
 abbrev Inv-loop : tie.InvT-loop
 Inv-loop block₀ count n i₀ block i = (i ≤ n) × ((length block ≡ length block₀) × (block ≡ replicate i 0 ++ drop i block₀))

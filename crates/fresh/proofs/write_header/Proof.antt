@@ -1,8 +1,8 @@
--- The proof that `fresh::write_header` keeps its contract.
+-- The proof that `write_header` keeps its contract.
 use borrow.Author.Needs.{needs}
-use Rattle.tables.proofs.Stored.{halves-stored}
-use Rattle.tables.proofs.fresh.write_header.Statement.{statement}
-use Rattle.tables.proofs.fresh.write_header.Tie as tie
+use Rattle.fresh.proofs.Stored.{halves-stored}
+use Rattle.fresh.proofs.write_header.Statement.{statement}
+use Rattle.fresh.proofs.write_header.Tie as tie
 
 pub write-header-spec : {M : Type 1} → statement M
 write-header-spec =

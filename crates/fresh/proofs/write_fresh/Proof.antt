@@ -1,8 +1,8 @@
--- The proof that `fresh::write_fresh` keeps its contract.
+-- The proof that `write_fresh` keeps its contract.
 use borrow.Author.Needs.{needs}
-use Rattle.tables.proofs.Making.{fresh-by}
-use Rattle.tables.proofs.fresh.write_fresh.Statement.{statement}
-use Rattle.tables.proofs.fresh.write_fresh.Tie as tie
+use Rattle.fresh.proofs.Making.{fresh-by}
+use Rattle.fresh.proofs.write_fresh.Statement.{statement}
+use Rattle.fresh.proofs.write_fresh.Tie as tie
 
 pub write-fresh-spec : {M : Type 1} → statement M
 write-fresh-spec =

@@ -1,16 +1,17 @@
-// Making: "Fresh tree (Figure 6)" on a lent block.
+// "Fresh tree (Figure 6)": making on a lent block. The one call here is total: it asks nothing of its caller and states its result and the whole block on every input.
 ghost use mathlib.Core.Path.{_≡_};
 ghost use Prim.Native.Nat.{_≤_};
 ghost use mathlib.Core.List.{[], _∷_};
 ghost use lib.ListN.{replicate};
 ghost use lib.Seq.{sets};
-ghost use Rattle.tables.specs.Fresh.{makeOut, makeOf, overFront, headerImage, writtenFresh};
-use crate::header;
-use crate::header::Header;
-use crate::node;
-use crate::numbers;
-use crate::numbers::Refusal;
-use crate::words;
+ghost use Rattle.tables.specs.Layout.{overFront};
+ghost use Rattle.fresh.specs.Fresh.{makeOut, makeOf, headerImage, writtenFresh};
+use tables::header;
+use tables::header::Header;
+use tables::node;
+use tables::numbers;
+use tables::numbers::Refusal;
+use tables::words;
 
 pub enum Made {
     Done,

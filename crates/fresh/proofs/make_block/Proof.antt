@@ -1,9 +1,9 @@
--- The proof that `fresh::make_block` keeps its contract.
+-- The proof that `make_block` keeps its contract.
 use borrow.Author.Needs.{needs}
-use Rattle.tables.proofs.Limits.{k-small, processes-small, nodes-small, fresh-small, records-small}
-use Rattle.tables.proofs.Making.{making}
-use Rattle.tables.proofs.fresh.make_block.Statement.{statement}
-use Rattle.tables.proofs.fresh.make_block.Tie as tie
+use Rattle.fresh.proofs.Stored.{k-small, processes-small, nodes-small, fresh-small, records-small}
+use Rattle.fresh.proofs.Making.{making}
+use Rattle.fresh.proofs.make_block.Statement.{statement}
+use Rattle.fresh.proofs.make_block.Tie as tie
 
 pub make-block-spec : {M : Type 1} → statement M
 make-block-spec =

@@ -3,12 +3,12 @@ use Prim.Native.Nat.{ℕ}
 use mathlib.Core.Path.{_≡_, refl}
 use mathlib.Core.List.{List, [], _∷_, _++_}
 use lib.ListN.{replicate}
 use Rattle.tables.specs.Choice.{pick, both, listed}
 use Rattle.tables.specs.Numbers.{numbersGood}
 use Rattle.tables.specs.Layout.{depthOf, blockWords}
-use Rattle.tables.specs.Fresh.{freshHeader, freshBlock, makeOut, makeOf}
-use Rattle.tables.specs.declared.fresh.Made.the-variants.{Done, Refused}
+use Rattle.fresh.specs.Fresh.{freshHeader, freshBlock, makeOut, makeOf}
+use Rattle.fresh.specs.declared.Made.the-variants.{Done, Refused}
 use Rattle.tables.specs.declared.numbers.Refusal.the-variants.{MakingNumber, TooShort}
 
 -- "Example: k=2, 1 process, 16 nodes, 8 records: D is 5, 155 words."
 pub example-length : (depthOf (freshHeader 2 1 16 8) ≡ 5) × (blockWords (freshHeader 2 1 16 8) ≡ 155)

@@ -3,16 +3,16 @@ use Prim.Native.Nat.{ℕ, _+_, _*_, _-_}
 use mathlib.Core.Bool.{not}
 use mathlib.Core.List.{List, [], _∷_, _++_}
 use lib.Dec.{ltb}
-use lib.ListN.{length, drop, replicate}
+use lib.ListN.{length, replicate}
 use lib.Seq.{sets}
 use Rattle.tables.specs.Choice.{Reason, reason, decide}
 use Rattle.tables.specs.Numbers.{kStored, freshNodes, headerWords, nodeWords, infinity, keyRoom, numbersGood}
 use Rattle.tables.specs.Refusal.{refusal}
-use Rattle.tables.specs.Layout.{blockWords}
+use Rattle.tables.specs.Layout.{blockWords, overFront}
 use Rattle.tables.specs.Node.{internalImage, withNode}
 use Rattle.tables.specs.declared.header.Header.{Header}
-use Rattle.tables.specs.declared.fresh.Made.{Made}
-use Rattle.tables.specs.declared.fresh.Made.the-variants.{Done, Refused}
+use Rattle.fresh.specs.declared.Made.{Made}
+use Rattle.fresh.specs.declared.Made.the-variants.{Done, Refused}
 
 -- the header of a fresh tree
 abbrev pub freshHeader : ℕ → ℕ → ℕ → ℕ → Header
@@ -46,10 +46,6 @@ freshBlock h =
 -- "all process records idle", for a row of records of any type
 abbrev pub freshRow : {P : Type 0} → P → Header → List P
 freshRow idle h = replicate (h .processes) idle
-
--- "Words and records beyond those needed are untouched."
-abbrev pub overFront : {A : Type 0} → List A → List A → List A
-overFront new old = new ++ drop (length new) old
 
 -- "Making checks 1, 2."
 abbrev pub makingReasons : List ℕ → ℕ → ℕ → ℕ → ℕ → List Reason

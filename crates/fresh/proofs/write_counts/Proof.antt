@@ -1,11 +1,11 @@
--- The proof that `fresh::write_numbers` keeps its contract.
+-- The proof that `write_counts` keeps its contract.
 use borrow.Author.Needs.{needs}
-use Rattle.tables.proofs.Stored.{three-stored}
-use Rattle.tables.proofs.fresh.write_numbers.Statement.{statement}
-use Rattle.tables.proofs.fresh.write_numbers.Tie as tie
+use Rattle.fresh.proofs.Stored.{three-stored}
+use Rattle.fresh.proofs.write_counts.Statement.{statement}
+use Rattle.fresh.proofs.write_counts.Tie as tie
 
-pub write-numbers-spec : {M : Type 1} → statement M
-write-numbers-spec =
+pub write-counts-spec : {M : Type 1} → statement M
+write-counts-spec =
     tie.close
     (tie.spec
     (λ c. search needs)  -- cast-put-at

@@ -9,19 +9,19 @@ use lib.Dec.{ltb, eqb}
 use borrow.Author.Tests.{ltb-true, eqb-false, lt-ltb, le-ltb}
 use lib.ListN.{length, getD, drop, replicate, length-append, length-replicate, getD-replicate, replicate-append-replicate}
 use lib.Seq.{sets, set-at}
 use Rattle.tables.specs.Choice.{pick, none, nor}
 use Rattle.tables.specs.Refusal.{refusal}
 use Rattle.tables.specs.Numbers.{kStored, freshNodes, infinity, numbersGood, nodeWords, keyRoom}
-use Rattle.tables.specs.Layout.{blockWords, nodeAt}
+use Rattle.tables.specs.Layout.{blockWords, nodeAt, overFront}
 use Rattle.tables.specs.Node.{imageWord, internalImage, withNode}
-use Rattle.tables.specs.Fresh.{freshHeader, headerImage, rootImage, dummyImage, freshBlock, overFront, makingReasons, makeOut, makeOf, writtenFresh}
+use Rattle.fresh.specs.Fresh.{freshHeader, headerImage, rootImage, dummyImage, freshBlock, makingReasons, makeOut, makeOf, writtenFresh}
 use Rattle.tables.specs.Header.{headerFrom}
 use Rattle.tables.specs.declared.header.Header.{Header}
-use Rattle.tables.specs.declared.fresh.Made.the-variants.{Done, Refused}
+use Rattle.fresh.specs.declared.Made.the-variants.{Done, Refused}
 use Rattle.tables.specs.declared.numbers.Refusal.the-variants.{MakingNumber, TooShort}
 use Rattle.tables.proofs.Lists.{length-listed, listed-ext}
 use Rattle.tables.proofs.OneToOne.{none-accepts}
 use Rattle.tables.proofs.Limits.{NumberLimits, number-limits}
 
 -- words stored over as many words in the middle of a list
 pub sets-over : (p q s vs : List ℕ) (i : ℕ) → length p ≡ i → length q ≡ length vs → sets (p ++ (q ++ s)) i vs ≡ p ++ (vs ++ s)
