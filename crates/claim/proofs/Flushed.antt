@@ -11,7 +11,7 @@ use Rattle.tables.specs.Layout.{childWord}
 use Rattle.tables.specs.declared.header.Header.{Header}
 use Rattle.tables.specs.declared.numbers.Refusal.the-variants.{ListTooShort}
 use Rattle.process.specs.declared.Process.{Process}
-use Rattle.points.specs.Help.{helpedL, helpedP, helpedThird}
+use Rattle.help.specs.Help.{helpedL, helpedP, helpedThird}
 use Rattle.walk.specs.Calls.{ListOut, listOf, rangeOf}
 use Rattle.walk.specs.declared.Listed.the-variants.{Count, Refused}
 use Rattle.walk.specs.declared.Cleared.the-variants.{No, Yes}

@@ -21,7 +21,7 @@ use Rattle.process.specs.Process.{idle}
 use Rattle.process.specs.declared.Process.{Process}
 use Rattle.process.specs.declared.Stepped.{Stepped}
 use Rattle.process.specs.declared.StepAnswer.the-variants as steps
-use Rattle.points.specs.Touch.{Out, out}
+use Rattle.help.specs.Touch.{Out, out}
 use Rattle.points.specs.Step.{stepReasons, stepRefused, stepDone, stepOf, startReasons, startRefused, startOf}
 use Rattle.points.specs.declared.start.Started.{Started}
 use Rattle.points.specs.declared.start.StartAnswer.the-variants as starts

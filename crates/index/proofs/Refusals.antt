@@ -21,7 +21,7 @@ use Rattle.fresh.proofs.Refusals.{one-made, not-done}
 use Rattle.process.specs.Process.{idle, startedAs}
 use Rattle.process.specs.declared.Process.{Process}
 use Rattle.process.specs.declared.StepAnswer.the-variants as steps
-use Rattle.points.specs.Touch.{Row}
+use Rattle.help.specs.Touch.{Row}
 use Rattle.points.specs.Rows.{rowOf}
 use Rattle.points.specs.Step.{rowReasons, startRest, startReasons, stepRest, stepReasons}
 use Rattle.points.specs.declared.start.StartAnswer.the-variants as starts

@@ -16,7 +16,7 @@ use Rattle.process.specs.Process.{idle, startedAs}
 use Rattle.process.specs.declared.Process.{Process}
 use Rattle.process.specs.declared.StepAnswer.{StepAnswer}
 use Rattle.process.specs.declared.StepAnswer.the-variants as steps
-use Rattle.points.specs.Touch.{Row}
+use Rattle.help.specs.Touch.{Row}
 use Rattle.points.specs.Rows.{rowOf}
 use Rattle.points.specs.Step.{stepReasons, startReasons}
 use Rattle.points.specs.declared.start.StartAnswer.{StartAnswer}

@@ -25,7 +25,7 @@ use Rattle.process.specs.declared.StepAnswer.the-variants.{Refused}
 use Rattle.draws.specs.declared.Job.{Job}
 use Rattle.draws.specs.Draw.{newNode, newRecord, sprouts, neededNodes, newKeys, newCount, leafDrawn, leavesFrom, sproutLeaves, sproutDrawn, nodesDrawn, recordImage, recordDrawn, committed, replaceDrawn, pruneDrawn}
 use Rattle.draws.proofs.After.{Room, room-is, stemImage}
-use Rattle.points.specs.Touch.{Touch, reads, swaps, touched}
+use Rattle.help.specs.Touch.{Touch, reads, swaps, touched}
 use Rattle.points.specs.Rows.{jobOf, rowOf}
 use Rattle.points.specs.Step.{stepReasons}
 use Rattle.points.proofs.Accepted.{Accepted, Known, accepted-known}

@@ -24,9 +24,10 @@ use Rattle.process.specs.Answer.{answer, goingOn, endingOf}
 use Rattle.draws.specs.declared.Job.{Job}
 use Rattle.draws.specs.Draw.{newNode, newRecord, roomFor, sprouts, neededNodes, recordImage, replaceDrawn, pruneDrawn}
 use Rattle.draws.proofs.After.{Room, room-is}
-use Rattle.points.specs.Touch.{seenBy, succeeds}
-use Rattle.points.specs.Help.{topOf, helping, helpGood}
-use Rattle.points.specs.Rows.{seenGood, kinAt, jobOf, flagGood, touch4, touch5, heldGood, leafGood4, room4, row4, row5}
+use Rattle.help.specs.Touch.{seenBy, succeeds}
+use Rattle.help.specs.Help.{topOf, helping, helpGood}
+use Rattle.help.specs.Rows.{seenGood, kinAt}
+use Rattle.points.specs.Rows.{jobOf, flagGood, touch4, touch5, heldGood, leafGood4, room4, row4, row5}
 use Rattle.history.specs.View.{In, infinity, keys}
 use Rattle.history.specs.Shared.{Shared}
 use Rattle.history.specs.Change.{draw-replace, draw-prune}

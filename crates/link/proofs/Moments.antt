@@ -16,7 +16,7 @@ use Rattle.process.specs.declared.Answer.the-variants.{No, Yes, Full}
 use Rattle.process.specs.declared.Stepped.{Stepped}
 use Rattle.process.specs.Process.{restartedOf}
 use Rattle.process.specs.Answer.{goingOn, endingOf}
-use Rattle.points.specs.Help.{helpedL, helpedP, helpedThird}
+use Rattle.help.specs.Help.{helpedL, helpedP, helpedThird}
 use Rattle.history.specs.View.{In, Holds}
 use Rattle.history.specs.Shared.{Shared, Done, Stands}
 use Rattle.history.specs.Run.{Step, rests, Run, step-swaps, Moment}

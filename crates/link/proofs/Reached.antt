@@ -21,7 +21,7 @@ use Rattle.process.specs.declared.Stepped.{Stepped}
 use Rattle.process.specs.Process.{idle, startedAs}
 use Rattle.points.specs.Rows.{rowOf}
 use Rattle.index.specs.Calls.{StartOut, StepOut}
-use Rattle.points.specs.Help.{helpedL, helpedP, helpedThird}
+use Rattle.help.specs.Help.{helpedL, helpedP, helpedThird}
 use Rattle.history.specs.View.{In}
 use Rattle.history.specs.Run.{Step, step-swaps}
 use Rattle.link.specs.Tables.{tablesOf}

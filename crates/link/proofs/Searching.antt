@@ -24,8 +24,9 @@ use Rattle.tables.proofs.Picks.{both-is}
 use Rattle.process.specs.declared.Process.{Process}
 use Rattle.process.specs.Process.{withPoint, withPSeen, withL, descendedOf, toThree, isCleanOf}
 use Rattle.process.specs.Answer.{answer, goingOn}
-use Rattle.points.specs.Help.{helping}
-use Rattle.points.specs.Rows.{childGood, touch2, kinAt, row1, row2, insertAt, deleteAt, findAt, atLeaf, atChild, leafGood2}
+use Rattle.help.specs.Help.{helping}
+use Rattle.help.specs.Rows.{childGood, kinAt}
+use Rattle.points.specs.Rows.{touch2, row1, row2, insertAt, deleteAt, findAt, atLeaf, atChild, leafGood2}
 use Rattle.history.specs.View.{In, infinity, route, keys}
 use Rattle.history.specs.Shared.{Shared}
 use Rattle.history.proofs.Invariant.{Sound}

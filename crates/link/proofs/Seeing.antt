@@ -15,7 +15,7 @@ use Rattle.tables.specs.declared.pending.Pending.the-variants.{Clean, Replace, 
 use Rattle.process.specs.declared.Process.{Process}
 use Rattle.process.specs.Process.{toSix, toNine, toTen, toEleven}
 use Rattle.process.specs.Answer.{goingOn}
-use Rattle.points.specs.Help.{helping, helpEnded}
+use Rattle.help.specs.Help.{helping, helpEnded}
 use Rattle.history.specs.View.{In}
 use Rattle.history.specs.Shared.{Shared}
 use Rattle.history.proofs.Invariant.{Word, clean, replacing, pruning, marked}

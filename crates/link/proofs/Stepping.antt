@@ -8,7 +8,7 @@ use Rattle.tables.specs.Layout.{depthOf}
 use Rattle.tables.specs.declared.header.Header.{Header}
 use Rattle.tables.proofs.Picks.{both-is}
 use Rattle.process.specs.declared.Process.{Process}
-use Rattle.points.specs.Touch.{Row}
+use Rattle.help.specs.Touch.{Row}
 use Rattle.points.specs.Rows.{rowOf}
 use Rattle.points.specs.Step.{soundStep}
 use Rattle.points.proofs.Steps.{row-at-1, row-at-2, row-at-3, row-at-4, row-at-5, row-at-6, row-at-7, row-at-8, row-at-9, row-at-10, row-at-11, row-at-12, row-at-13, row-at-14}

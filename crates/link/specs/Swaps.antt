@@ -6,7 +6,7 @@ use mathlib.Core.List.{List}
 use Rattle.tables.specs.Layout.{childWord}
 use Rattle.tables.specs.declared.header.Header.{Header}
 use Rattle.process.specs.declared.Process.{Process}
-use Rattle.points.specs.Help.{helpedL, helpedP, helpedThird}
+use Rattle.help.specs.Help.{helpedL, helpedP, helpedThird}
 use Rattle.history.specs.View.{In}
 use Rattle.link.specs.Events.{Event, step, State, taken, eventAt, stateAt, blockAt, headerAt}
 

@@ -5,6 +5,7 @@ pub mod Fresh
 pub mod Process
 pub mod Damage
 pub mod Draws
+pub mod Help
 pub mod Points
 pub mod Walk
 pub mod Script

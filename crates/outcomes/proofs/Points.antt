@@ -1,7 +1,7 @@
 -- One outcome for every public function of `points`: start and step by value.
 use Rattle.outcomes.specs.Outcome.{OneOutcome}
 use Rattle.outcomes.proofs.Law.{one, codes}
-use Rattle.points.specs.Touch.{Out}
+use Rattle.help.specs.Touch.{Out}
 use Rattle.points.proofs.start.start
 use Rattle.points.proofs.step.step
 

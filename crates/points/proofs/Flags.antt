@@ -25,11 +25,12 @@ use Rattle.process.specs.declared.Answer.the-variants.{Full}
 use Rattle.process.specs.declared.Stepped.{Stepped}
 use Rattle.draws.specs.Draw.{newRecord, roomFor, neededNodes, replaceDrawn, pruneDrawn, DrawOut, drawOut, replaceOf, pruneOf}
 use Rattle.draws.specs.declared.Job.{Job}
-use Rattle.points.specs.Touch.{Out, out, rowDone}
-use Rattle.points.specs.Help.{topOf, helping, helpGood}
-use Rattle.points.specs.Rows.{kinAt, heldGood, leafGood4, jobOf, row4, row5}
+use Rattle.help.specs.Touch.{Out, out, rowDone}
+use Rattle.help.specs.Help.{topOf, helping, helpGood}
+use Rattle.help.specs.Rows.{kinAt}
+use Rattle.points.specs.Rows.{heldGood, leafGood4, jobOf, row4, row5}
 use Rattle.points.specs.Parts.{seenHelped, drawnReplace, drawnPrune, flaggedP, flaggedLeaf, flaggedGp}
-use Rattle.points.proofs.Rowed.{row-not, kin-is}
+use Rattle.help.proofs.Rowed.{row-not, kin-is}
 
 module _ (b : List ℕ) (h : Header) (n : ℕ) (q : Process) (word top : ℕ) (v : Pending) (t : Bool) (s : Stepped) (e1 : top ≡ topOf b h n q) (e2 : v ≡ pendingOf word)
     (e3 : t ≡ helpGood b h (q .depth) top v) where

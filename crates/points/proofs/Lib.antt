@@ -1,9 +1,6 @@
 -- The laws of start and the fourteen points, return by return; then, from Accepted on, the theorems: answers, refusals, what a step touches and leaves.
-pub mod Rowed
-pub mod Helps
 pub mod Searches
 pub mod Flags
-pub mod Finishes
 pub mod Steps
 pub mod Accepted
 pub mod Counted

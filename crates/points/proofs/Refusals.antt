@@ -14,7 +14,7 @@ use Rattle.process.specs.Answer.{refusedAs}
 use Rattle.process.specs.declared.Process.{Process}
 use Rattle.process.specs.declared.StepAnswer.{StepAnswer}
 use Rattle.process.specs.declared.StepAnswer.the-variants.{Refused}
-use Rattle.points.specs.Touch.{Out, out}
+use Rattle.help.specs.Touch.{Out, out}
 use Rattle.points.specs.Step.{stepReasons, stepDone, stepOf, started, startReasons, startRefused, startOf}
 use Rattle.points.specs.declared.start.StartAnswer.the-variants as answers
 use Rattle.points.specs.declared.start.Started.{Started}

@@ -27,10 +27,11 @@ use Rattle.process.specs.Answer.{goingOn, endingOf, refusedAs}
 use Rattle.process.specs.declared.Process.{Process}
 use Rattle.process.specs.declared.Answer.the-variants.{No, Yes}
 use Rattle.process.specs.declared.Stepped.{Stepped}
-use Rattle.points.specs.Touch.{out, rowDone}
-use Rattle.points.specs.Help.{helping}
-use Rattle.points.specs.Rows.{nonEmpty, findAt, insertAt, deleteAt, atLeaf, atChild, leafGood2, maskWith, pointAfter3, scanned3, row1, row2, row3}
-use Rattle.points.proofs.Rowed.{row-done, row-not, row-rest, below-is}
+use Rattle.help.specs.Touch.{out, rowDone}
+use Rattle.help.specs.Help.{helping}
+use Rattle.help.specs.Rows.{nonEmpty}
+use Rattle.points.specs.Rows.{findAt, insertAt, deleteAt, atLeaf, atChild, leafGood2, maskWith, pointAfter3, scanned3, row1, row2, row3}
+use Rattle.help.proofs.Rowed.{row-done, row-not, row-rest, below-is}
 
 module _ (b : List ℕ) (h : Header) (q : Process) (w : ℕ) (v : Pending) (t : Bool) (s : Stepped) (e1 : w ≡ pendingWord b h (q .p)) (e2 : v ≡ pendingOf w)
     (e3 : t ≡ pendingGood b h v) where
@@ -155,13 +156,6 @@ pub ruleset downs = (
   two-bad,
 )
 
-module _ (kin : Kin) (n c : ℕ) (e : kin ≡ Leaf n c) where
-  pub empty-leaf : c ≡ 0 → false ≡ nonEmpty kin
-  empty-leaf f = cc
-
-  pub holding-leaf : (c ≡ 0 → ⊥) → true ≡ nonEmpty kin
-  holding-leaf f = cc (ne-eqb c 0 f)
-
 pub bit-is : (i : ℕ) → i < 32 → 1 * 2 ^ i % 4294967296 ≡ 2 ^ i
 bit-is i p = rw one-mul (mod-eq-of-lt (pow-lt {j = 32} p))
 
@@ -205,4 +199,4 @@ module _ (b : List ℕ) (h : Header) (q : Process) (c : Child) (s : Stepped) (e 
   unfolding row3
   three-bad f g = row-not b q (row3 b h q) s (ap isNode (sym e ∙ f)) g
 
-pub ruleset scans = (empty-leaf, holding-leaf, mask-set, mask-kept, after-five, after-four, scan-on, scan-end, three-scan, three-bad)
+pub ruleset scans = (mask-set, mask-kept, after-five, after-four, scan-on, scan-end, three-scan, three-bad)

@@ -23,7 +23,7 @@ use Rattle.tables.proofs.Places.{read-same, read-other}
 use Rattle.process.specs.declared.Process.{Process}
 use Rattle.draws.specs.Draw.{newNode, newRecord, neededNodes, nodesDrawn, replaceDrawn, pruneDrawn}
 use Rattle.draws.proofs.After.{Room, room-is, nodes-length, committed-other, committed-flag, committed-header, committed-length, replace-other, replace-header, replace-length}
-use Rattle.points.specs.Touch.{Touch, reads, swaps, touchedNode, touchedWord, touched, Row, Out}
+use Rattle.help.specs.Touch.{Touch, reads, swaps, touchedNode, touchedWord, touched, Row, Out}
 use Rattle.points.specs.Rows.{jobOf, rowOf}
 use Rattle.points.specs.Step.{stepOf}
 use Rattle.points.proofs.Accepted.{Accepted, Known, accepted-known, accepted-does}

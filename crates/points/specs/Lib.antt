@@ -1,6 +1,4 @@
 -- Start and the fourteen points of document 01, by value: what a reader must believe. No laws stand here.
-pub mod Touch
-pub mod Help
 pub mod Rows
 pub mod Step
 pub mod Parts

@@ -1,24 +1,22 @@
 -- What the private parts of a point promise: a row seen from the middle of its work.
-use Prim.Native.Nat.{ℕ, _+_, _*_, _<_, _≤_}
+use Prim.Native.Nat.{ℕ, _<_, _≤_}
 use mathlib.Core.Bool.{Bool}
 use mathlib.Core.List.{List, _++_}
-use lib.Dec.{eqb, ltb}
-use lib.ListN.{set}
+use lib.Dec.{eqb}
 use Rattle.tables.specs.Choice.{pick, both, decide}
 use Rattle.tables.specs.Refusal.{refusal}
-use Rattle.tables.specs.Layout.{depthOf, nodeAt, stackAt, pendingPlace}
 use Rattle.tables.specs.Pending.{wordOf, pendingOf, pendingGood}
 use Rattle.tables.specs.declared.header.Header.{Header}
 use Rattle.tables.specs.declared.node.Kin.{Kin}
 use Rattle.tables.specs.declared.node.Kin.the-variants.{Leaf, Internal}
-use Rattle.process.specs.Process.{startedAs, withDepth, withOwn, toSix, toNine, toEleven}
+use Rattle.process.specs.Process.{startedAs, withOwn, toSix, toNine}
 use Rattle.process.specs.Answer.{answer, goingOn, endingOf, refusedAs}
 use Rattle.process.specs.declared.Process.{Process}
 use Rattle.process.specs.declared.Stepped.{Stepped}
 use Rattle.draws.specs.Draw.{newRecord, replaceOf, pruneOf}
-use Rattle.points.specs.Touch.{Out, out}
-use Rattle.points.specs.Help.{topOf, helping, helpGood}
-use Rattle.points.specs.Rows.{jobOf, leafGood4, notedGood, noted, otherWith}
+use Rattle.help.specs.Touch.{Out, out}
+use Rattle.help.specs.Help.{topOf, helping, helpGood}
+use Rattle.points.specs.Rows.{jobOf, leafGood4}
 use Rattle.points.specs.Step.{rowReasons, stepRest, stepRefused, stepDone, startRest, started, startRefused}
 use Rattle.points.specs.declared.start.StartAnswer.the-variants.{Accepted}
 use Rattle.points.specs.declared.start.Started.{Started}
@@ -54,27 +52,9 @@ flaggedGp b h n q word =
     (out (drawnPrune h q (pruneOf b h (jobOf n q) (q .gp) (wordOf (q .pseen)) .drawn)) (pruneOf b h (jobOf n q) (q .gp) (wordOf (q .pseen)) .block))
     (out (seenHelped b h n q word) b)
 
--- a push at 9, or none past D
-unfoldable pub pushed : List ℕ → Header → ℕ → Process → ℕ → Out
-pushed b h n q word =
-    pick (ltb (q .depth) (depthOf h))
-    (out (helping (q .helped) (withDepth q (q .depth + 1)) (pendingOf word)) (set b (stackAt h n (q .depth)) (q .helped)))
-    (out (refusedAs q (refusal 3)) b)
-
--- 9 with the words it works from: the mark, the mark already there, or a push
-unfoldable pub markedOrPushed : List ℕ → Header → ℕ → Process → ℕ → ℕ → ℕ → Out
-markedOrPushed b h n q p expected word =
-    pick (eqb word expected) (out (goingOn (toEleven q (q .helped))) (set b (nodeAt h p (pendingPlace (h .k))) (4 * q .helped + 3)))
-    (pick (eqb word (4 * q .helped + 3)) (out (goingOn (toEleven q (q .helped))) b) (pushed b h n q word))
-
--- the noting of 11
-abbrev pub noteDone : Header → Process → ℕ → Bool → Stepped
-noteDone h q seen noting = pick (notedGood h q seen noting) (noted h q (otherWith q seen noting)) (refusedAs q (refusal 3))
-
 -- what the fields of a sound process record leave to the arithmetic of its row
 pub record Ready (q : Process) : Type 0 where
   pub index-small : q .index ≤ 8
-  pub helped-small : q .helped ≤ 65535
   pub pseen-small : wordOf (q .pseen) < 4294967296
 
 -- a step once the header is read

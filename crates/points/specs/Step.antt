@@ -13,7 +13,7 @@ use Rattle.process.specs.Answer.{refusedAs}
 use Rattle.process.specs.declared.Process.{Process}
 use Rattle.damage.specs.Fields.{processGood}
 use Rattle.damage.specs.Helped.{helpedGood}
-use Rattle.points.specs.Touch.{Out, out}
+use Rattle.help.specs.Touch.{Out, out}
 use Rattle.points.specs.Rows.{rowOf}
 use Rattle.points.specs.declared.start.StartAnswer.{StartAnswer}
 use Rattle.points.specs.declared.start.StartAnswer.the-variants.{Accepted, Refused}

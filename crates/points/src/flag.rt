@@ -2,10 +2,9 @@
 ghost use mathlib.Core.Path.{_≡_};
 ghost use Prim.Native.Nat.{_<_};
 ghost use Rattle.tables.specs.Pending.{wordOf};
-ghost use Rattle.points.specs.Touch.{out, rowDone};
+ghost use Rattle.help.specs.Touch.{out, rowDone};
 ghost use Rattle.points.specs.Parts.{seenHelped, drawnReplace, drawnPrune, flaggedP, flaggedLeaf, flaggedGp};
 ghost use Rattle.points.specs.Rows.{heldGood, leafGood4, jobOf, row4, row5};
-use crate::help;
 use draws::Job;
 use process::Answer;
 use process::Process;

@@ -1,7 +1,5 @@
 // Start and the fourteen points of document 01, by value: one step of one process record on a lent block.
-mod finish;
 mod flag;
-mod help;
 mod search;
 pub mod start;
 pub mod step;

@@ -7,9 +7,8 @@ ghost use Rattle.tables.specs.Choice.{pick, both};
 ghost use Rattle.tables.specs.Refusal.{refusal};
 ghost use Rattle.tables.specs.Keys.{keysOf, rises};
 ghost use Rattle.process.specs.Answer.{refusedAs};
-ghost use Rattle.points.specs.Touch.{out, rowDone};
-ghost use Rattle.points.specs.Rows.{nonEmpty, insertAt, deleteAt, findAt, atLeaf, atChild, leafGood2, maskWith, pointAfter3, scanned3, row1, row2, row3};
-use crate::help;
+ghost use Rattle.help.specs.Touch.{out, rowDone};
+ghost use Rattle.points.specs.Rows.{insertAt, deleteAt, findAt, atLeaf, atChild, leafGood2, maskWith, pointAfter3, scanned3, row1, row2, row3};
 use process::Answer;
 use process::Process;
 use process::Stepped;
@@ -130,22 +129,12 @@ pub fn point_2(block: &[u32], h: Header, q: Process) -> Stepped
     at_child(block, h, q, kin)
 }
 
-// "internal or holding a key"
-pub fn non_empty(kin: Kin) -> bool
-    ensures { λ r. ⌜ r ≡ nonEmpty kin ⌝ }
-{
-    match kin {
-        Kin::Leaf(_, count) => { if count == 0 { false } else { true } }
-        Kin::Internal(_) => true,
-    }
-}
-
 // "Child i is bit i−1 of the mask."
 fn mask_with(q: Process, kin: Kin) -> u32
     requires { ⌜ q .index ≤ 8 ⌝ }
     ensures { λ r. ⌜ r ≡ maskWith q kin ⌝ }
 {
-    if non_empty(kin) {
+    if help::non_empty(kin) {
         let bit = 1u32 << words::prev(q.index);
         q.mask | bit
     } else {

@@ -2,13 +2,12 @@
 ghost use mathlib.Core.Path.{_≡_};
 ghost use mathlib.Core.Bool.{true};
 ghost use Rattle.tables.specs.Header.{headerGood};
-ghost use Rattle.points.specs.Touch.{out, rowDone};
+ghost use Rattle.help.specs.Touch.{out};
+ghost use Rattle.help.specs.Rows.{helpedDone};
 ghost use Rattle.points.specs.Rows.{rowOf};
 ghost use Rattle.points.specs.Step.{stepOf};
 ghost use Rattle.points.specs.Parts.{Ready, stepGood};
-use crate::finish;
 use crate::flag;
-use crate::help;
 use crate::search;
 use process::Process;
 use process::Stepped;
@@ -18,10 +17,10 @@ use tables::header::Header;
 use tables::header::HeaderRead;
 use tables::numbers::Refusal;
 
-// "Each accepted step does the one row of its point."
+// "Each accepted step does the one row of its point"; where that helps a record, the record is checked first.
 fn row(block: &mut [u32], h: Header, n: u32, q: Process) -> Stepped
     requires { ⌜ Ready q ⌝ }
-    ensures { λ r. ⌜ out r (now (block .exit)) ≡ rowDone (now (block .entry)) q (rowOf (now (block .entry)) h n q) ⌝ }
+    ensures { λ r. ⌜ out r (now (block .exit)) ≡ helpedDone (now (block .entry)) h q (rowOf (now (block .entry)) h n q) ⌝ }
 {
     let point = q.point;
     match point {
@@ -30,16 +29,7 @@ fn row(block: &mut [u32], h: Header, n: u32, q: Process) -> Stepped
         3 => search::point_3(block, h, q),
         4 => flag::point_4(block, h, n, q),
         5 => flag::point_5(block, h, n, q),
-        6 => finish::point_6(block, h, q),
-        7 => finish::point_7(block, h, q),
-        8 => finish::point_8(block, h, n, q),
-        9 => finish::point_9(block, h, n, q),
-        10 => finish::point_10(block, h, n, q),
-        11 => finish::point_11(block, h, q),
-        12 => finish::point_12(block, h, q),
-        13 => finish::point_13(block, h, q),
-        14 => finish::point_14(block, h, n, q),
-        0 | 15..=4294967295 => help::damaged(q),
+        0 | 6..=4294967295 => help::help_record(block, h, n, q),
     }
 }
 
@@ -54,8 +44,7 @@ fn step_good(block: &mut [u32], h: Header, rows: u64, n: u32, q: Process) -> Ste
         if q.operation == 0 {
             return process::refused(q, Refusal::Idle);
         }
-        let fields = damage::fields::process_good(block, h, q);
-        if choice::and(fields, damage::helped::helped_good(block, h, q)) {
+        if damage::fields::process_good(block, h, q) {
             row(block, h, n, q)
         } else {
             help::damaged(q)

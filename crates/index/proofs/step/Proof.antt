@@ -49,7 +49,7 @@ use Rattle.process.proofs.Stepped as O
 use Rattle.process.proofs.Stepped.Laws as O′
 use Rattle.process.proofs.StepAnswer as R
 use Rattle.process.proofs.StepAnswer.Laws as R′
-use Rattle.points.specs.Touch.{out}
+use Rattle.help.specs.Touch.{out}
 use Rattle.points.specs.Step.{stepOf}
 use Rattle.index.specs.Calls.{stepOut, stepCall}
 use Rattle.points.proofs.step.step as core

@@ -1,6 +1,6 @@
 -- The proof that `step::row` keeps its contract.
 use borrow.Author.Needs.{needs}
-use Rattle.points.proofs.Steps.{rows}
+use Rattle.points.proofs.Steps.{at-1, at-2, at-3, at-4, at-5, at-zero, at-past}
 use mathlib.Core.Logic.{⊎-elim}
 use Rattle.points.proofs.step.row.Statement.{statement}
 use Rattle.points.proofs.step.row.Tie as tie
@@ -14,43 +14,17 @@ row-spec =
     (λ c κs. search needs)  -- point-3-requires
     (λ c κs. search needs)  -- point-4-requires
     (λ c κs. search needs)  -- point-5-requires
-    (λ c κs. search needs)  -- point-6-requires
-    (λ c κs. search needs)  -- point-7-requires
-    (λ c κs. search needs)  -- point-8-requires
-    (λ c κs. search needs)  -- point-9-requires
-    (λ c κs. search needs)  -- point-10-requires
-    (λ c κs. search needs)  -- point-11-requires
-    (λ c κs. search needs)  -- point-12-requires
-    (λ c κs. search needs)  -- point-13-requires
-    (λ c κs. search needs)  -- point-14-requires
-    (λ c κs. search needs)  -- damaged-requires
+    (λ c κs. search needs)  -- help-record-requires
     (λ c. search needs)  -- same-length
-    (λ c. search rows)  -- returns
+    (λ c. search at-1)  -- returns
     (λ c. search needs)  -- same-length-2
-    (λ c. search rows)  -- returns-2
+    (λ c. search at-2)  -- returns-2
     (λ c. search needs)  -- same-length-3
-    (λ c. search rows)  -- returns-3
+    (λ c. search at-3)  -- returns-3
     (λ c. search needs)  -- same-length-4
-    (λ c. search rows)  -- returns-4
+    (λ c. search at-4)  -- returns-4
     (λ c. search needs)  -- same-length-5
-    (λ c. search rows)  -- returns-5
+    (λ c. search at-5)  -- returns-5
     (λ c. search needs)  -- same-length-6
-    (λ c. search rows)  -- returns-6
-    (λ c. search needs)  -- same-length-7
-    (λ c. search rows)  -- returns-7
-    (λ c. search needs)  -- same-length-8
-    (λ c. search rows)  -- returns-8
-    (λ c. search needs)  -- same-length-9
-    (λ c. search rows)  -- returns-9
-    (λ c. search needs)  -- same-length-10
-    (λ c. search rows)  -- returns-10
-    (λ c. search needs)  -- same-length-11
-    (λ c. search rows)  -- returns-11
-    (λ c. search needs)  -- same-length-12
-    (λ c. search rows)  -- returns-12
-    (λ c. search needs)  -- same-length-13
-    (λ c. search rows)  -- returns-13
-    (λ c. search needs)  -- same-length-14
-    (λ c. search rows)  -- returns-14
-    (λ c. ⊎-elim (λ w. search rows) (λ w. search rows) (c .before .match .came))  -- returns-15
+    (λ c. ⊎-elim (λ w. search at-zero) (λ w. search at-past) (c .before .before .before .before .match .came))  -- returns-6
     )

@@ -16,9 +16,7 @@ step-good-spec =
     (λ c κs. search needs)  -- refused-requires-2
     (λ c. search steps)  -- returns-2
     (λ c κs. search needs)  -- process-good-requires
-    (λ c κs. search needs)  -- helped-good-requires
-    (λ c κs. search needs)  -- and-requires
-    (λ c κs. ready _ _ _ _ _ _ (c .before .before .before .before .before .before .before .before .before .before .before .before .before .before .before .pre) (c .before .before .before .before .before .process-good .ensures) (c .before .before .before .helped-good .ensures) (c .before .before .and .ensures) (c .before .if4 .taken))  -- row-requires
+    (λ c κs. ready _ _ _ _ (c .before .before .before .before .before .before .before .before .before .before .before .before .pre) (c .before .before .process-good .ensures) (c .before .if4 .taken))  -- row-requires
     (λ c κs. search needs)  -- damaged-requires
     (λ c κs. search needs)  -- refused-requires-3
     (λ c. search needs)  -- same-length

@@ -1,0 +1,22 @@
+-- The proof that `finish::noted` keeps its contract.
+use borrow.Author.Needs.{needs}
+use Rattle.help.proofs.Finishes.{notings}
+use Rattle.help.proofs.finish.noted.Statement.{statement}
+use Rattle.help.proofs.finish.noted.Tie as tie
+
+pub noted-spec : {M : Type 1} → statement M
+noted-spec =
+    tie.close
+    (tie.spec
+    (λ c κs. search needs)  -- with-other-requires
+    (λ c. search needs)  -- cast-if1
+    (λ c. search needs)  -- add-with-index
+    (λ c κs. search needs)  -- with-index-requires
+    (λ c κs. search needs)  -- goes-on-requires
+    (λ c κs. search needs)  -- damaged-requires
+    (λ c κs. search needs)  -- to-twelve-requires
+    (λ c κs. search needs)  -- goes-on-requires-2
+    (λ c. search (needs, notings))  -- returns
+    (λ c. search (needs, notings))  -- returns-2
+    (λ c. search (needs, notings))  -- returns-3
+    )
