@@ -17,7 +17,7 @@ use Rattle.walk.specs.declared.Cleared.the-variants as cleared
 use Rattle.history.specs.View.{In, route, keys, Reach, Below, Holds}
 use Rattle.history.specs.Shared.{Desc, Shared}
 use Rattle.history.specs.Change.{Drawn, put-leaf, out-leaf, sprout, draw-replace, draw-prune, swap-replace, unflag-replace, mark, swap-prune, unflag-prune}
-use Rattle.history.specs.Effects.{SameSet, SetMoves, adds, removes, Moved, swaps}
+use Rattle.history.specs.Effects.{Added, SameSet, SetMoves, adds, removes, Moved, swaps}
 use Rattle.history.specs.Run.{Step, changes, rests, step-swaps, Moment}
 use Rattle.history.proofs.Invariant.{Sound}
 use Rattle.link.specs.Tables.{tablesOf}
@@ -57,8 +57,15 @@ module _ {s : State} {es : List Event} (reached : Reached s es) where
   of-set : (m x : ℕ) → InSet s es m x → Holds k (S m .view) x
   of-set m x = subst (λ (y : ℕ). Holds y (S m .view) x) (k-at reached m)
 
-  kept : (m y : ℕ) → Holds k (S m .view) y ↔ Holds k (S (suc m) .view) y → InSet s es m y ↔ InSet s es (suc m) y
-  kept m y e = (λ a. in-set (suc m) y (e .0 (of-set m y a)), λ a. in-set m y (e .1 (of-set (suc m) y a)))
+  kept : (m m′ y : ℕ) → Holds k (S m .view) y ↔ Holds k (S m′ .view) y → InSet s es m y ↔ InSet s es m′ y
+  kept m m′ y e = (λ a. in-set m′ y (e .0 (of-set m y a)), λ a. in-set m y (e .1 (of-set m′ y a)))
+
+  added : (m m′ x : ℕ) → Added (Holds k (S m .view)) (Holds k (S m′ .view)) x → Added (InSet s es m) (InSet s es m′) x
+  added m m′ x d = record {
+    absent = λ a. d .absent (of-set m x a);
+    present = in-set m′ x (d .present);
+    others = λ y q. kept m m′ y (d .others y q);
+  }
 
   search-order : (m n i l x : ℕ) → Reach (headerAt s es m .k) (viewAt s es m) n → viewAt s es m .tag n ≡ headerAt s es m .k → In (headerAt s es m .k) i
       → Below (headerAt s es m .k) (viewAt s es m) (viewAt s es m .child n i) l → viewAt s es m .tag l ≢ headerAt s es m .k
@@ -75,7 +82,7 @@ module _ {s : State} {es : List Event} (reached : Reached s es) where
 
   set-stays : (m : ℕ) → ((r : ℕ) → ¬ ChildSwap s es m r) → (x : ℕ) → InSet s es m x ↔ InSet s es (suc m) x
   unfolding SameSet
-  set-stays m f x = kept m x (link.set-stays reached m f x)
+  set-stays m f x = kept m (suc m) x (link.set-stays reached m f x)
 
   -- the record of a child swap is in use
   swap-used : (m r : ℕ) → ChildSwap s es m r → In (S m .records) r
@@ -116,16 +123,8 @@ module _ {s : State} {es : List Event} (reached : Reached s es) where
           (subst (λ (v : ℕ). Started s es (y .begin) (c .n) (p .operation) v) (e .2 ∙ sym (c .key) ∙ d) (p .started))
 
       go : SetMoves k (S m .view) (S (suc m) .view) (S m .rec r) → Changes s es m (y .begin)
-      go (adds o d) = put-in (c .n) (S m .rec r .key) (by 2 (S m .rec r .key) o refl) (record {
-        absent = λ a. d .absent (of-set m (S m .rec r .key) a);
-        present = in-set (suc m) (S m .rec r .key) (d .present);
-        others = λ z q. kept m z (d .others z q);
-      })
-      go (removes o d) = taken-out (c .n) (S m .rec r .key) (by 3 (S m .rec r .key) o refl) (record {
-        present = in-set m (S m .rec r .key) (d .present);
-        absent = λ a. d .absent (of-set (suc m) (S m .rec r .key) a);
-        others = λ z q. kept m z (d .others z q);
-      })
+      go (adds o d) = put-in (c .n) (S m .rec r .key) (by 2 (S m .rec r .key) o refl) (added m (suc m) (S m .rec r .key) d)
+      go (removes o d) = taken-out (c .n) (S m .rec r .key) (by 3 (S m .rec r .key) o refl) (added (suc m) m (S m .rec r .key) d)
 
   -- what a record of an operation is, once it is drawn, to its process
   own-of : (r i : ℕ) (a : OperationOf s es r i) (m : ℕ) → a .when < m → sinceAt s es (a .process) m ≡ suc i → DrawnSince s es (sinceAt s es (a .process) m) m (a .process) r

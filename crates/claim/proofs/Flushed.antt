@@ -22,7 +22,7 @@ use Rattle.link.specs.Sets.{InSet}
 use Rattle.link.proofs.Reached.{step-one}
 use Rattle.claim.proofs.Operations.{start-same}
 use Rattle.claim.specs.Claim.{Claim, Changes, put-in, taken-out, SwapOf, Listing, Range, clear, met}
-use Rattle.claim.specs.Flushed.{TakenOut, Flushed}
+use Rattle.claim.specs.Flushed.{Deleted, TakenOut, Flushed}
 
 -- whether an event is a child swap can be told
 swapping? : (b : List ℕ) (h : Header) (q : Process) → Dec (Swapping b h q)
@@ -60,18 +60,11 @@ module _ (s : State) (es : List Event) where
           (swapping? (blockAt s es m) (headerAt s es m) (taken (stateAt s es m) n))
 
 module _ {s : State} {es : List Event} (claim : Claim s es) where
-  -- the swap of a delete of x at an event
-  record Deleted (x j : ℕ) : Type 0 where
-    pub delete : ℕ
-    pub n : ℕ
-    pub started : Started s es delete n 3 x
-    pub swap : SwapOf s es j delete
-
   -- a key of the set stays there for an event, or the event is the swap of a delete of it
-  stays-or : (j x : ℕ) → InSet s es j x → InSet s es (suc j) x ⊎ Deleted x j
+  stays-or : (j x : ℕ) → InSet s es j x → InSet s es (suc j) x ⊎ Deleted s es j x
   stays-or j x h = go (swap? s es j)
     where
-      by : (r i : ℕ) → ChildSwap s es j r → OperationOf s es r i → Changes s es j i → InSet s es (suc j) x ⊎ Deleted x j
+      by : (r i : ℕ) → ChildSwap s es j r → OperationOf s es r i → Changes s es j i → InSet s es (suc j) x ⊎ Deleted s es j x
       by r i w o (put-in n y st a) = inl (other (ℕ-discrete x y))
         where
           other : Dec (x ≡ y) → InSet s es (suc j) x
@@ -79,22 +72,22 @@ module _ {s : State} {es : List Event} (claim : Claim s es) where
           other (no e) = a .others x e .0 h
       by r i w o (taken-out n y st a) = other (ℕ-discrete x y)
         where
-          other : Dec (x ≡ y) → InSet s es (suc j) x ⊎ Deleted x j
+          other : Dec (x ≡ y) → InSet s es (suc j) x ⊎ Deleted s es j x
           other (yes e) =
               inr (record { delete = i; n = n; started = subst (λ (z : ℕ). Started s es i n 3 z) (sym e) st; swap = record { r = r; swap = w; operation = o } })
-          other (no e) = inl (a .others x e .0 h)
+          other (no e) = inl (a .others x e .1 h)
 
-      go : ((r : ℕ) × ChildSwap s es j r) ⊎ ((r : ℕ) → ¬ ChildSwap s es j r) → InSet s es (suc j) x ⊎ Deleted x j
+      go : ((r : ℕ) × ChildSwap s es j r) ⊎ ((r : ℕ) → ¬ ChildSwap s es j r) → InSet s es (suc j) x ⊎ Deleted s es j x
       go (inl w) = let c = claim .set-changes j (w .0) (w .1) in by (w .0) (c .0) (w .1) (c .1) (c .2)
       go (inr f) = inl (claim .set-stays j f x .0 h)
 
   -- a key in the set at j and not at j + d is taken out in between
-  taken-between : (d j x : ℕ) → InSet s es j x → ¬ InSet s es (j + d) x → (t : ℕ) × Deleted x t × (j ≤ t) × (t < j + d)
+  taken-between : (d j x : ℕ) → InSet s es j x → ¬ InSet s es (j + d) x → (t : ℕ) × Deleted s es t x × (j ≤ t) × (t < j + d)
   taken-between zero j x h f = absurd (f (subst (λ (t : ℕ). InSet s es t x) (omega arith) h))
   taken-between (suc d) j x h f = go (stays-or j x h) (λ a c. taken-between d (suc j) x a c)
     where
-      go : InSet s es (suc j) x ⊎ Deleted x j → (InSet s es (suc j) x → ¬ InSet s es (suc j + d) x → (t : ℕ) × Deleted x t × (suc j ≤ t) × (t < suc j + d))
-          → (t : ℕ) × Deleted x t × (j ≤ t) × (t < j + suc d)
+      go : InSet s es (suc j) x ⊎ Deleted s es j x → (InSet s es (suc j) x → ¬ InSet s es (suc j + d) x → (t : ℕ) × Deleted s es t x × (suc j ≤ t) × (t < suc j + d))
+          → (t : ℕ) × Deleted s es t x × (j ≤ t) × (t < j + suc d)
       go (inr a) next = (j, a, omega arith, omega arith)
       go (inl a) next =
           let up : suc j + d ≡ j + suc d = omega arith in
@@ -122,15 +115,12 @@ module _ {s : State} {es : List Event} (claim : Claim s es) where
           up : suc (w .0) + (m - suc (w .0)) ≡ m
           up = omega (arith, w .3, p .before)
 
-          from : (t : ℕ) × Deleted x t × (suc (w .0) ≤ t) × (t < suc (w .0) + (m - suc (w .0))) → TakenOut s es m i x
+          from : (t : ℕ) × Deleted s es t x × (suc (w .0) ≤ t) × (t < suc (w .0) + (m - suc (w .0))) → TakenOut s es m i x
           from z = record {
             when = w .0;
             swap = w .1;
-            delete = z .1 .delete;
-            n = z .1 .n;
-            started = z .1 .started;
             later = z .0;
-            delete-swap = z .1 .swap;
+            deleted = z .1;
             after = omega (arith, z .2);
             before = omega (arith, z .3, up);
           }

@@ -22,7 +22,7 @@ use Rattle.walk.specs.declared.Listed.the-variants as listed
 use Rattle.walk.specs.declared.Cleared.the-variants as cleared
 use Rattle.history.specs.View.{In, route, keys, Reach, Below}
 use Rattle.history.specs.Shared.{Shared}
-use Rattle.history.specs.Effects.{Moved, Grown}
+use Rattle.history.specs.Effects.{Added, Removed, Moved, Grown}
 use Rattle.history.specs.Run.{Moment}
 use Rattle.link.specs.Events.{Event, State, taken, startIn, stepIn, stateAt, blockAt, headerAt, stepsAt, capped}
 use Rattle.link.specs.Swaps.{ChildSwap}
@@ -43,21 +43,10 @@ pub data Range (s : State) (es : List Event) (m low high : ℕ) : Type 0 where
   clear : rangeOf (blockAt s es m) low high ≡ cleared.Yes → ClearOf (blockAt s es m) low high → Range s es m low high
   met : rangeOf (blockAt s es m) low high ≡ cleared.No → Between (blockAt s es m) low high → Range s es m low high
 
--- the set with x put in, which was not there, and with x taken out, which was; no other key comes or goes
-pub record Added (s : State) (es : List Event) (m x : ℕ) : Type 0 where
-  pub absent : ¬ InSet s es m x
-  pub present : InSet s es (suc m) x
-  pub others : (y : ℕ) → y ≢ x → InSet s es m y ↔ InSet s es (suc m) y
-
-pub record Removed (s : State) (es : List Event) (m x : ℕ) : Type 0 where
-  pub present : InSet s es m x
-  pub absent : ¬ InSet s es (suc m) x
-  pub others : (y : ℕ) → y ≢ x → InSet s es m y ↔ InSet s es (suc m) y
-
 -- what event m does to the set, for the operation that event i started: its key is put in by an insert, taken out by a delete
 pub data Changes (s : State) (es : List Event) (m i : ℕ) : Type 0 where
-  put-in : (n x : ℕ) → Started s es i n 2 x → Added s es m x → Changes s es m i
-  taken-out : (n x : ℕ) → Started s es i n 3 x → Removed s es m x → Changes s es m i
+  put-in : (n x : ℕ) → Started s es i n 2 x → Added (InSet s es m) (InSet s es (suc m)) x → Changes s es m i
+  taken-out : (n x : ℕ) → Started s es i n 3 x → Removed (InSet s es m) (InSet s es (suc m)) x → Changes s es m i
 
 -- the child swap of the operation that event i started
 pub record SwapOf (s : State) (es : List Event) (m i : ℕ) : Type 0 where

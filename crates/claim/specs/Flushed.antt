@@ -16,15 +16,19 @@ pub record PutIn (s : State) (es : List Event) (m i x : ℕ) : Type 0 where
   pub answered : Answered s es answer n Yes count
   pub before : answer < m
 
+-- event m is the swap of a delete of x
+pub record Deleted (s : State) (es : List Event) (m x : ℕ) : Type 0 where
+  pub delete : ℕ
+  pub n : ℕ
+  pub started : Started s es delete n 3 x
+  pub swap : SwapOf s es m delete
+
 -- its swap, and the swap of a delete of x after it and before moment m
 pub record TakenOut (s : State) (es : List Event) (m i x : ℕ) : Type 0 where
   pub when : ℕ
   pub swap : SwapOf s es when i
-  pub delete : ℕ
-  pub n : ℕ
-  pub started : Started s es delete n 3 x
   pub later : ℕ
-  pub delete-swap : SwapOf s es later delete
+  pub deleted : Deleted s es later x
   pub after : when < later
   pub before : later < m
 

@@ -45,9 +45,9 @@ module _ (h : Header) (operation count : ℕ) (t : Bool) (e : t ≡ sprouts h op
 
 pub ruleset counts = (count-in, count-none, count-out, need-sprout, need-leaf)
 
-pub room-is : (h : Header) (needed nodes : ℕ) (left fits r : Bool) → left ≡ ltb (h .recordsused) (h .records) → nodes ≡ h .nodesused + needed → fits ≡ leb nodes (h .nodes) →
+pub room-told : (h : Header) (needed nodes : ℕ) (left fits r : Bool) → left ≡ ltb (h .recordsused) (h .records) → nodes ≡ h .nodesused + needed → fits ≡ leb nodes (h .nodes) →
     r ≡ both left fits → r ≡ roomFor h needed
-room-is h needed nodes left fits r e f g i = cc
+room-told h needed nodes left fits r e f g i = cc
 
 pub sprouts-is : (h : Header) (operation count : ℕ) (full puts r : Bool) → full ≡ eqb (count + 1) (h .k) → puts ≡ putsIn operation → r ≡ both puts full → r ≡ sprouts h operation count
 sprouts-is h operation count full puts r e f g = cc

@@ -166,8 +166,8 @@ nine-rest false true d s u r b c e = refl
 nine-rest false false true s u r b c e = refl
 nine-rest false false false s u r b c e = refl
 
-module _ (b : List ℕ) (h : Header) (n : ℕ) (q : Process) (p expected word : ℕ) (t : Bool) (s : Stepped) (e1 : p ≡ helpedP b h q)
-    (e2 : expected ≡ helpedExpected b h q) (e3 : word ≡ pendingWord b h p) (e4 : t ≡ pendingGood b h (pendingOf word)) where
+module _ (b : List ℕ) (h : Header) (n : ℕ) (q : Process) (p word : ℕ) (t : Bool) (s : Stepped) (e1 : p ≡ helpedP b h q) (e2 : word ≡ pendingWord b h p)
+    (e3 : t ≡ pendingGood b h (pendingOf word)) where
   good-is : t ≡ pendingGood b h (pendingOf (pendingWord b h (helpedP b h q)))
   good-is = cc
 
@@ -175,9 +175,10 @@ module _ (b : List ℕ) (h : Header) (n : ℕ) (q : Process) (p expected word : 
   unfolding row9 both
   nine-bad f g = row-not b q (row9 b h n q) s (rw (sym good-is ∙ f) refl) g
 
-  pub nine-good : (e : List ℕ) → t ≡ true → out s e ≡ markedOrPushed b h n q p expected word → out s e ≡ rowDone b q (row9 b h n q)
+  pub nine-good : (expected : ℕ) (e : List ℕ) → expected ≡ helpedExpected b h q → t ≡ true → out s e ≡ markedOrPushed b h n q p expected word →
+      out s e ≡ rowDone b q (row9 b h n q)
   unfolding row9 rowDone markedOrPushed pushed both
-  nine-good e f i =
+  nine-good expected e e4 f i =
       i
       ∙ nine-rest (eqb word expected) (eqb word (4 * q .helped + 3)) (ltb (q .depth) (depthOf h)) (goingOn (toEleven q (q .helped)))
       (helping (q .helped) (withDepth q (q .depth + 1)) (pendingOf word))
@@ -185,7 +186,7 @@ module _ (b : List ℕ) (h : Header) (n : ℕ) (q : Process) (p expected word : 
       b
       (set b (nodeAt h p (pendingPlace (h .k))) (4 * q .helped + 3))
       (set b (stackAt h n (q .depth)) (q .helped))
-      ∙ rw (e3, e2, e1, sym good-is ∙ f) refl
+      ∙ rw (e2, e4, e1, sym good-is ∙ f) refl
 
 module _ (b : List ℕ) (h : Header) (n : ℕ) (q : Process) (gp word under : ℕ) (v : Bool) (s : Stepped) (e1 : gp ≡ helpedThird b h q)
     (e2 : word ≡ pendingWord b h gp) (e3 : under ≡ underTop b h n q) (e4 : v ≡ both (pendingGood b h (pendingOf word)) (popGood b h n q under)) where

@@ -13,7 +13,7 @@ use Rattle.history.proofs.Paths.{Uniq, same-on, same-reach-back, same-u
 use Rattle.history.proofs.Replaced.{span, NewOf}
 use Rattle.history.proofs.Invariant.{Shape, Good, Word, Names, is-l, is-p, is-gp, Waits, Over, Status, waits, over, asks}
 use Rattle.history.proofs.Invariant.{stands-marked, finished, dropped, Inv}
-use Rattle.history.proofs.Touch.{new-used, Touch, reach-used, new-like, keep-over, keep-status}
+use Rattle.history.proofs.Touch.{new-used, Touch, reach-used, keep-over, keep-status}
 use Rattle.history.proofs.Static.{good-more, word-more, shape-same}
 
 -- a replace that waits is not done
@@ -60,8 +60,8 @@ module _ {k u m : ℕ} {T : ℕ → Desc} {t : View} (hk : 1 ≤ k) (I : Inv k u
     back = λ o. inl (same-reach-back k t t′ u low (w .tag-same) (w .child-same) o);
     nobody = λ a n h g b no₁ j s e. no₁ j s (sym (w .child-same a j h s) ∙ e);
     born = bo;
-    apart = λ q n h e d a b. omega (arith, b .from, b .to);
-    named = λ q n h a b. omega (arith, b .from, b .to);
+    apart = λ q n h e d a b. omega (arith, b .low, b .high);
+    named = λ q n h a b. omega (arith, b .low, b .high);
   }
     where
       low : (n : ℕ) → Reach k t n → In u n
@@ -81,7 +81,7 @@ module _ {k u m : ℕ} {T : ℕ → Desc} {t : View} (hk : 1 ≤ k) (I : Inv k u
       good = λ q h. good-more k u u t t′ (omega arith) (w .tag-same) (w .key-same) (I .good q h);
       status = λ q h. go q h (ℕ-discrete q r);
       apart = λ a b ha hb ka kb l. rw (third-tag a ha ka) (I .apart a b ha hb ka kb l);
-      named = λ a b n ha hb ka nm nw. keep-over hk I w a ha ka (I .named a b n ha hb ka nm (new-like (third-tag a ha ka) nw));
+      named = λ a b n ha hb ka nm nw. keep-over hk I w a ha ka (I .named a b n ha hb ka nm (rw (third-tag a ha ka) at nw));
     }
       where
         pd : (n : ℕ) → In u n → Dec (n ≡ x) → Word m T n (t′ .pend n)
@@ -163,7 +163,7 @@ module _ {k u m : ℕ} {T : ℕ → Desc} {t : View} (hk : 1 ≤ k) (I : Inv k u
             ka′ = rw (is a h) at ka
 
             nw′ : NewOf k t (T a .third) n
-            nw′ = new-like (third-tag w a h ka′) (rw (is a h) at nw)
+            nw′ = rw (third-tag w a h ka′) at (rw (is a h) at nw)
 
             come : Status k t (T a) a → Over k t (T a)
             come (waits e v) = absurd (v .unborn .unreached n (names n (rw y at nm)) nw′)
@@ -177,7 +177,7 @@ module _ {k u m : ℕ} {T : ℕ → Desc} {t : View} (hk : 1 ≤ k) (I : Inv k u
             let g = old b hb y in
             let ka′ : T a .kind ≡ 1 = rw (is a h) at ka in
             rw (is a h) (keep-over hk I w a h ka′ (I .named a b n h g ka′ (rw (is b g) at nm)
-            (new-like (third-tag w a h ka′) (rw (is a h) at nw))))
+            (rw (third-tag w a h ka′) at (rw (is a h) at nw))))
 
 -- a step that changes nothing in use is a touch of no node, for no record
 pub same-touch : {k : ℕ} {S S′ : Shared} → 1 ≤ k → Inv k (S .nodes) (S .records) (S .rec) (S .view) → Same k S S′
@@ -199,8 +199,8 @@ same-touch {k} {S} {S′} hk I w = record {
   back = λ o. inl (same-reach-back k (S .view) (S′ .view) (S .nodes) low (w .tag-same) (w .child-same) o);
   nobody = λ a n h g b no₁ j s e. no₁ j s (sym (w .child-same a j h s) ∙ e);
   born = λ q h kd v e. omega (arith, new-used I q h kd);
-  apart = λ q n h e d a b. omega (arith, b .from, b .to);
-  named = λ q n h a b. omega (arith, b .from, b .to);
+  apart = λ q n h e d a b. omega (arith, b .low, b .high);
+  named = λ q n h a b. omega (arith, b .low, b .high);
 }
   where
     low : (n : ℕ) → Reach k (S .view) n → In (S .nodes) n

@@ -6,17 +6,20 @@ use Prim.Native.Nat.{ℕ, suc, _+_, _-_, _≤_, _<_}
 use native.Mathlib.Decide.{ℕ-discrete}
 use native.Mathlib.Omega.{arith}
 use lib.ListN.{length, getD}
-use Rattle.history.specs.View.{View, In, infinity, route, keys, keys-from}
-use Rattle.history.specs.Keys.{put-in, take-out}
+use Rattle.tables.specs.Numbers.{infinity}
+use Rattle.tables.specs.Choice.{listed}
+use Rattle.tables.specs.Keys.{putIn, takenOut}
+use Rattle.tables.proofs.Lists.{length-listed}
+use Rattle.history.specs.View.{View, In, route, keys}
 use Rattle.history.specs.Shared.{Desc}
 use Rattle.history.proofs.Route.{route-is}
 use Rattle.history.proofs.Rows.{put-in-old, put-in-new, put-in-only, put-in-length, put-in-rises, take-out-old, rises-apart}
-use Rattle.history.proofs.Rows.{take-out-only, take-out-rises, keys-length, keys-mem, keys-rise, mem-getD, getD-mem, rises-getD}
+use Rattle.history.proofs.Rows.{take-out-only, take-out-each, listed-mem, listed-rises, mem-getD, getD-mem, rises-getD}
 use Rattle.history.proofs.Replaced.{Brings}
 use Rattle.history.proofs.Invariant.{Sorted, Made, put, out, sprouted}
 
 pub keys-one : (t : View) (n : ℕ) → t .tag n ≡ 1 → keys t n ≡ t .key n 1 ∷ []
-unfolding keys keys-from
+unfolding keys listed
 keys-one t n e = rw e
 
 -- one key, and x is there
@@ -27,29 +30,29 @@ keys-alone t n x e m =
 
 pub keys-count : (t : View) (n : ℕ) → length (keys t n) ≡ t .tag n
 unfolding keys
-keys-count t n = keys-length (t .key n) (t .tag n) 1
+keys-count t n = length-listed (t .key n) 1 (t .tag n)
 
-pub put-in-sorted : (x : ℕ) (ks : List ℕ) → x < infinity → Sorted ks → ¬ List·Memᴰ x ks → Sorted (put-in x ks)
+pub put-in-sorted : (x : ℕ) (ks : List ℕ) → x < infinity → Sorted ks → ¬ List·Memᴰ x ks → Sorted (putIn x ks)
 put-in-sorted x ks h s no₁ = record { rises = put-in-rises x ks (s .rises) no₁; finite = λ y m. go y (put-in-only x y ks m) }
   where
     go : (y : ℕ) → (y ≡ x) ⊎ List·Memᴰ y ks → y < infinity
     go y (inl e) = omega arith
     go y (inr m) = s .finite y m
 
-pub take-out-sorted : (x : ℕ) (ks : List ℕ) → Sorted ks → Sorted (take-out x ks)
+pub take-out-sorted : (x : ℕ) (ks : List ℕ) → Sorted ks → Sorted (takenOut x ks)
 take-out-sorted x ks s = record {
-  rises = take-out-rises x ks (s .rises);
+  rises = take-out-each x ks (rises-apart ks (s .rises)) (s .rises);
   finite = λ y m. s .finite y ((take-out-only x y ks (rises-apart ks (s .rises)) m) .0);
 }
 
 -- the largest k - 1 of k keys, as an internal node holds them
 pub largest-sorted : (k : ℕ) (f : ℕ → ℕ) (ks : List ℕ) → 1 ≤ k → length ks ≡ k → Sorted ks → ((i : ℕ) → 1 ≤ i → i < k → f i ≡ getD ks i 0)
-    → Sorted (keys-from f (k - 1) 1)
+    → Sorted (listed f 1 (k - 1))
 largest-sorted k f ks hk len s at = record {
   rises =
-      keys-rise f (k - 1) 1 (λ a b p q r. rw (at a p (omega arith), at b (omega arith) (omega arith))
+      listed-rises f 1 (k - 1) (λ a b p q r. rw (at a p (omega arith), at b (omega arith) (omega arith))
       (rises-getD ks (s .rises) a b q (omega arith)));
-  finite = λ y m. go y (keys-mem f (k - 1) 1 m);
+  finite = λ y m. go y (listed-mem f 1 (k - 1) m);
 }
   where
     go : (y : ℕ) → (j : ℕ) × (1 ≤ j) × (j < 1 + (k - 1)) × (y ≡ f j) → y < infinity
@@ -69,7 +72,7 @@ pub data Effect (k : ℕ) (t : View) (d : Desc) : Type 0 where
 module _ (k : ℕ) (t : View) (d : Desc) (hk : 2 ≤ k) (s : Sorted (keys t (d .l))) where
   -- the k keys of a sprout
   row : List ℕ
-  row = put-in (d .key) (keys t (d .l))
+  row = putIn (d .key) (keys t (d .l))
 
   row-length : t .tag (d .l) + 1 ≡ k → length row ≡ k
   unfolding row
@@ -87,7 +90,7 @@ module _ (k : ℕ) (t : View) (d : Desc) (hk : 2 ≤ k) (s : Sorted (keys t (d .
   the-leaf q y m = record { node = d .third; place = inl refl; leaf = q; has = m }
 
   module _ (q : t .tag (d .third) ≡ k) (full : t .tag (d .l) + 1 ≡ k) (leafs : (j : ℕ) → In k j → t .tag (d .third + j) ≡ 1)
-      (kid : (j : ℕ) → In k j → t .key (d .third + j) 1 ≡ getD (put-in (d .key) (keys t (d .l))) (j - 1) 0) where
+      (kid : (j : ℕ) → In k j → t .key (d .third + j) 1 ≡ getD (putIn (d .key) (keys t (d .l))) (j - 1) 0) where
     of-kid : (j y : ℕ) → In k j → List·Memᴰ y (keys t (d .third + j)) → y ≡ getD row (j - 1) 0
     unfolding row
     of-kid j y i m = List·Memᴰ·eq-of-singleton (rw (keys-one t (d .third + j) (leafs j i)) at m) ∙ kid j i

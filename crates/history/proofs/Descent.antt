@@ -5,7 +5,8 @@ use mathlib.Core.List.{[], _∷_, List·Memᴰ}
 use Prim.Native.Nat.{ℕ, suc, _+_, _*_, _≤_, _<_}
 use native.Mathlib.Decide.{ℕ-discrete}
 use native.Mathlib.Omega.{arith}
-use Rattle.history.specs.View.{In, infinity, route, keys, On, root, Reach, by, Holds}
+use Rattle.tables.specs.Numbers.{infinity}
+use Rattle.history.specs.View.{In, route, keys, On, root, Reach, by, Holds}
 use Rattle.history.specs.Shared.{Shared, Pair}
 use Rattle.history.specs.Change.{rank}
 use Rattle.history.specs.Run.{Step, Run, Moment}

@@ -2,8 +2,9 @@
 use mathlib.Core.Path.{_≡_, refl, sym, _∙_}
 use Prim.Native.Nat.{ℕ, _+_, _*_, _≤_, _<_}
 use native.Mathlib.Omega.{arith}
-use Rattle.history.specs.View.{View, In, infinity, keys}
-use Rattle.history.specs.Keys.{put-in, take-out}
+use Rattle.tables.specs.Numbers.{infinity}
+use Rattle.tables.specs.Keys.{putIn, takenOut}
+use Rattle.history.specs.View.{View, In, keys}
 use Rattle.history.specs.Shared.{Shared}
 use Rattle.history.specs.Change.{SwapPend, NewRecord, NewLeaf, Sprout, Drawn, put-leaf, out-leaf, sprout, replace-words, prune-words}
 use Rattle.history.specs.Change.{DrawReplace, DrawPrune}
@@ -16,9 +17,9 @@ use Rattle.history.proofs.Knows.{Mind, owns, Job, to-put, to-take, Dele
 
 -- the words that 4 writes, by the operation and by how full l is
 pub data Words (k : ℕ) (t t′ : View) (n r : ℕ) (M : Mind) (size : ℕ) : Type 0 where
-  one-more : M .operation ≡ 2 → t .tag (M .l) + 1 < k → NewLeaf t′ n (put-in (M .key) (keys t (M .l))) → size ≡ 1 → Words k t t′ n r M size
-  one-less : M .operation ≡ 3 → NewLeaf t′ n (take-out (M .key) (keys t (M .l))) → size ≡ 1 → Words k t t′ n r M size
-  sprouts : M .operation ≡ 2 → t .tag (M .l) + 1 ≡ k → Sprout k t′ n r (put-in (M .key) (keys t (M .l))) → size ≡ k + 1
+  one-more : M .operation ≡ 2 → t .tag (M .l) + 1 < k → NewLeaf t′ n (putIn (M .key) (keys t (M .l))) → size ≡ 1 → Words k t t′ n r M size
+  one-less : M .operation ≡ 3 → NewLeaf t′ n (takenOut (M .key) (keys t (M .l))) → size ≡ 1 → Words k t t′ n r M size
+  sprouts : M .operation ≡ 2 → t .tag (M .l) + 1 ≡ k → Sprout k t′ n r (putIn (M .key) (keys t (M .l))) → size ≡ k + 1
       → Words k t t′ n r M size
 
 drawn-words : {k : ℕ} {t t′ : View} {n r : ℕ} {M : Mind} {size : ℕ} → Job t M → Words k t t′ n r M size
@@ -64,31 +65,31 @@ module _ {k : ℕ} {S : ℕ → Shared} {s′ : Shared} {i j : ℕ} {M : Mind} (
       → NewRecord (S j) s′ r (prune-words (M .l) (M .p) (M .gp) (M .pseen) (M .process) (M .key))
       → DrawPrune k (S j) s′ r (M .gp)
   draws-prune d two one z flag cnt nr =
-      go (prune-ready hk R I₀ (d .g) (d .leaf) (rw (d .gp-clean) at (d .up)) (rw two at (d .counted)) one (d .has) (z ∙ d .gp-clean))
+      go (prune-ready hk R I₀ (d .g) (d .arrived .leaf) (rw (d .gp-clean) at (d .up)) (rw two at (d .counted)) one (d .has) (z ∙ d .gp-clean))
     where
-      go : PruneReady k (S j) (M .key) (M .gp) (M .p) (M .l) (d .e) → DrawPrune k (S j) s′ r (M .gp)
+      go : PruneReady k (S j) (M .key) (M .gp) (M .p) (M .l) (d .arrived .e) → DrawPrune k (S j) s′ r (M .gp)
       go y = record {
         x = M .key;
         process = M .process;
         p = M .p;
         l = M .l;
         seen = d .g;
-        seen-p = d .e;
+        seen-p = d .arrived .e;
         finite = finite;
         on = y .on;
         inner = d .up .way .inner;
         at = y .at;
-        p-inner = d .leaf .way .inner;
+        p-inner = d .arrived .leaf .way .inner;
         past-dummy = y .past-dummy;
-        above = d .leaf .under;
-        used = d .leaf .used .high;
+        above = d .arrived .leaf .under;
+        used = d .arrived .leaf .used .high;
         alone = y .alone;
         age = y .age;
         fine = y .fine;
         clean = z ∙ d .gp-clean;
         flag = flag;
         counted = cnt;
-        record-new = rw (d .p-clean) at nr;
+        record-new = rw (d .arrived .p-clean) at nr;
       }
 
 -- after the draw the process helps its own record: at 6 a replace, at 9 a prune

@@ -5,16 +5,19 @@ use mathlib.Core.List.{List}
 use Prim.Native.Nat.{ℕ, _+_, _*_, _-_, _≤_, _<_}
 use native.Mathlib.Decide.{ℕ-discrete, decLe}
 use native.Mathlib.Omega.{arith}
+use lib.Dec.{eqb}
 use lib.ListN.{length}
-use Rattle.history.specs.View.{View, In, infinity, route, keys, Reach, by}
-use Rattle.history.specs.Keys.{put-in, take-out}
+use Rattle.tables.specs.Numbers.{infinity}
+use Rattle.tables.specs.Keys.{putIn, takenOut}
+use Rattle.tables.proofs.Keyed.{first-in}
+use Rattle.history.specs.View.{View, In, route, keys, On, Reach, by, Ordered}
 use Rattle.history.specs.Shared.{Desc, Shared}
 use Rattle.history.specs.Change.{rank, replace-words, prune-words, SwapPend, NewLeaf, Drawn, put-leaf, out-leaf, sprout, DrawReplace}
 use Rattle.history.specs.Change.{DrawPrune}
 use Rattle.history.proofs.Rank.{rank-clean, rank-replace, rank-prune, rank-mark}
 use Rattle.history.proofs.Route.{route-slot, route-first}
 use Rattle.history.proofs.Rows.{put-in-length, take-out-length, mem-getD}
-use Rattle.history.proofs.Paths.{keys-same, on-reach, same-uniq, same-ordered, same-reach-back}
+use Rattle.history.proofs.Paths.{Uniq, keys-same, on-reach, same-uniq, same-ordered, same-reach-back}
 use Rattle.history.proofs.Replaced.{span, span-inner, span-leaf}
 use Rattle.history.proofs.Invariant.{Sorted, Shape, Made, put, out, sprouted, never, sprout-born, Word, clean, replacing, pruning}
 use Rattle.history.proofs.Invariant.{marked, Names, is-l, is-p, is-gp, waits, asks, Inv}
@@ -50,7 +53,7 @@ module _ {k u m : ℕ} {T : ℕ → Desc} {t : View} (hk : 2 ≤ k) (I : Inv k u
       (λ q hq kq b z. b .unborn .unreached x o (omega arith))
 
 -- what a draw of nodes brings, whichever it was
-record Fresh (k : ℕ) (t′ : View) (u size r : ℕ) (d : Desc) : Type 0 where
+record Grows (k : ℕ) (t′ : View) (u size r : ℕ) (d : Desc) : Type 0 where
   shape : Shape k (u + size) t′
   made : Made k t′ d
   top : u + 1 + span k (t′ .tag (u + 1)) ≤ u + size
@@ -67,7 +70,7 @@ module _ (k u r : ℕ) (t t′ : View) (x op l p process size : ℕ) (hk : 2 ≤
 
   one-drawn : (ks : List ℕ) → length ks < k → Sorted ks → NewLeaf t′ (u + 1) ks → size ≡ 1
       → (t′ .tag (u + 1) ≢ k → Made k t′ (replace-words l p (u + 1) process op x))
-      → Fresh k t′ u size r (replace-words l p (u + 1) process op x)
+      → Grows k t′ u size r (replace-words l p (u + 1) process op x)
   one-drawn ks len so n z md = record {
     shape = rw z (grow-leaf s small (rw (n .row) so) (n .clean));
     made = md (λ e. omega (arith, small));
@@ -79,19 +82,19 @@ module _ (k u r : ℕ) (t t′ : View) (x op l p process size : ℕ) (hk : 2 ≤
       small : t′ .tag (u + 1) < k
       small = rw (← keys-count t′ (u + 1), n .row) len
 
-  drawn-fresh : Drawn k t t′ (u + 1) r op x l size
-      → Fresh k t′ u size r (replace-words l p (u + 1) process op x)
-  drawn-fresh (put-leaf o no₁ room n z) = one-drawn (put-in x (keys t l)) len (put-in-sorted x (keys t l) fin row-sorted no₁) n z
+  drawn-grows : Drawn k t t′ (u + 1) r op x l size
+      → Grows k t′ u size r (replace-words l p (u + 1) process op x)
+  drawn-grows (put-leaf o no₁ room n z) = one-drawn (putIn x (keys t l)) len (put-in-sorted x (keys t l) fin row-sorted no₁) n z
       (λ q. put o (rw row-same no₁) q (rw row-same (n .row)))
     where
-      len : length (put-in x (keys t l)) < k
+      len : length (putIn x (keys t l)) < k
       len = rw (put-in-length x (keys t l), keys-count t l) (omega arith)
-  drawn-fresh (out-leaf o m n z) = one-drawn (take-out x (keys t l)) len (take-out-sorted x (keys t l) row-sorted) n z
+  drawn-grows (out-leaf o m n z) = one-drawn (takenOut x (keys t l)) len (take-out-sorted x (keys t l) row-sorted) n z
       (λ q. out o (rw row-same m) q (rw row-same (n .row)))
     where
-      len : length (take-out x (keys t l)) < k
-      len = let b : t .tag l ≤ k = rw tl at (s .tags l hl) in omega (arith, take-out-length x (keys t l), keys-count t l)
-  drawn-fresh (sprout o no₁ full p z) = record {
+      len : length (takenOut x (keys t l)) < k
+      len = let b : t .tag l ≤ k = rw tl at (s .tags l hl) in omega (arith, take-out-length x (keys t l), first-in (λ y. eqb x y) (keys t l), keys-count t l)
+  drawn-grows (sprout o no₁ full p z) = record {
     shape =
         rw z (grow-sprout s hk p (largest-sorted k (t′ .key (u + 1)) ks (omega arith) len so (p .largest))
         (λ j i. rw (p .leaf-key j i) (so .finite _ (mem-getD ks (j - 1) (omega (arith, len, i .low, i .high))))));
@@ -104,7 +107,7 @@ module _ (k u r : ℕ) (t t′ : View) (x op l p process size : ℕ) (hk : 2 ≤
   }
     where
       ks : List ℕ
-      ks = put-in x (keys t l)
+      ks = putIn x (keys t l)
 
       len : length ks ≡ k
       len = put-in-length x (keys t l) ∙ omega (arith, keys-count t l)
@@ -118,14 +121,56 @@ module _ (k u r : ℕ) (t t′ : View) (x op l p process size : ℕ) (hk : 2 ≤
           let e : a ≡ u + 1 + (a - (u + 1)) = omega arith in
           inl (rw e (p .leaf-clean (a - (u + 1)) (omega arith)))
 
+-- of the node a that a draw flags, on the path of x, and its child c for x: both are in the tree, and the flag leaves paths and order alone
+record Flagged (k : ℕ) (S S′ : Shared) (x a c : ℕ) : Type 0 where
+  reached : Reach k (S .view) a
+  used : In (S .nodes) a
+  below-reached : Reach k (S .view) c
+  below-used : In (S .nodes) c
+  above : a < c
+  at : S′ .view .child a (route k (S′ .view .key a) x) ≡ c
+  -- below the root there is the dummy
+  past-root : c ≢ 2 → 2 ≤ a
+  back : (n : ℕ) → Reach k (S′ .view) n → In (S .nodes) n
+  uniq : Uniq k (S′ .view)
+  ordered : Ordered k (S′ .view)
+
+flagged : {k : ℕ} {S S′ : Shared} {x a c v : ℕ} → 2 ≤ k → Inv k (S .nodes) (S .records) (S .rec) (S .view) → x < infinity → On k (S .view) x a
+    → S .view .tag a ≡ k → S .view .child a (route k (S .view .key a) x) ≡ c → SwapPend k (S .nodes) (S .view) (S′ .view) a v → Flagged k S S′ x a c
+flagged {k} {S} {S′} {x} {a} {c} hk I fin on inner at w = record {
+  reached = o;
+  used = low a o;
+  below-reached = under;
+  below-used = low c under;
+  above = rw at at (I .shape .above a (route k (S .view .key a) x) (low a o) inner (route-slot k _ (omega arith) x));
+  at = rw (w .key-same a (low a o)) (w .child-same a (route k (S .view .key a) x) (low a o) (route-slot k _ (omega arith) x) ∙ at);
+  past-root = λ d. go d (ℕ-discrete a 1);
+  back = λ n r. low n (same-reach-back k (S .view) (S′ .view) (S .nodes) low (w .tag-same) (w .child-same) r);
+  uniq = same-uniq k (S .view) (S′ .view) (S .nodes) low (w .tag-same) (w .child-same) (I .uniq);
+  ordered = same-ordered k (S .view) (S′ .view) (S .nodes) low (w .tag-same) (w .child-same) (omega arith) (w .key-same) (I .ordered);
+}
+  where
+    low : (n : ℕ) → Reach k (S .view) n → In (S .nodes) n
+    low n r = reach-used (omega arith) (I .shape) r
+
+    o : Reach k (S .view) a
+    o = on-reach k (omega arith) on
+
+    under : Reach k (S .view) c
+    under = by (route k (S .view .key a) x) o inner (route-slot k _ (omega arith) x) (sym at)
+
+    go : c ≢ 2 → Dec (a ≡ 1) → 2 ≤ a
+    go d (yes e) = absurd (d (sym at ∙ root-child hk I a x fin e))
+    go d (no e) = omega (arith, low a o .low)
+
 module _ {k : ℕ} {S S′ : Shared} {r p : ℕ} (hk : 2 ≤ k) (I : Inv k (S .nodes) (S .records) (S .rec) (S .view))
     (D : DrawReplace k S S′ r p) where
-  p-reached : Reach k (S .view) p
-  p-reached = on-reach k (omega arith) (D .on)
+  f₄ : Flagged k S S′ (D .x) p (D .l)
+  f₄ = flagged hk I (D .finite) (D .on) (D .inner) (D .at) (D .flag)
 
   pub draw-replace-touch : Touch k (S .nodes) (S .records) (S .rec) (S .view) (S′ .view) p r 1 0
   draw-replace-touch =
-      draw-touch hk I r (D .seen) (D .record-new .next) p-reached (D .clean) (rank-replace r) (λ a e. omega arith) (λ a e. omega arith)
+      draw-touch hk I r (D .seen) (D .record-new .next) (f₄ .reached) (D .clean) (rank-replace r) (λ a e. omega arith) (λ a e. omega arith)
       (D .flag)
 
   pub draw-replace-keeps : Inv k (S′ .nodes) (S′ .records) (S′ .rec) (S′ .view)
@@ -133,17 +178,17 @@ module _ {k : ℕ} {S S′ : Shared} {r p : ℕ} (hk : 2 ≤ k) (I : Inv k (S .n
       rw (D .counted, D .record-new .counted) (assemble-new (omega arith) I draw-replace-touch (D .record-new .next)
       (D .record-new .rec-same) (omega arith)
       (fr .shape)
-      (same-uniq k t t′ u low (w .tag-same) (w .child-same) (I .uniq))
-      (same-ordered k t t′ u low (w .tag-same) (w .child-same) (omega arith) (w .key-same) (I .ordered))
+      (f₄ .uniq)
+      (f₄ .ordered)
       (rw (w .pend-new) (replacing r refl (omega (arith, D .record-new .next)) (rw (D .record-new .words) refl)
       (rw (D .record-new .words) refl)))
       (λ n a b. wd n (fr .words n a b))
       (rw (D .record-new .words) (record {
         finite = D .finite;
-        inner = w .tag-same p hp ∙ D .inner;
-        low = p-low;
+        inner = w .tag-same p (f₄ .used) ∙ D .inner;
+        low = f₄ .past-root (λ e. D .leaf (rw e (I .shape .crown .dummy-inner)));
         leaf = rw (w .tag-same (D .l) hl) (D .leaf);
-        above = p-l;
+        above = f₄ .above;
         used = omega (arith, hl .high);
         replace = λ e. record { made = fr .made; new-above = omega (arith, hl .high); new-used = fr .top; unexpected = refl };
         prune = λ e. absurd (omega arith);
@@ -151,55 +196,22 @@ module _ {k : ℕ} {S S′ : Shared} {r p : ℕ} (hk : 2 ≤ k) (I : Inv k (S .n
       (rw (D .record-new .words) (waits refl (record {
         flag = w .pend-new;
         on = draw-replace-touch .on (D .on) (D .inner) (λ q e. omega (arith, D .clean));
-        at = rw (w .key-same p hp) (w .child-same p (route k (t .key p) (D .x)) hp (route-slot k _ (omega arith) (D .x)) ∙ D .at);
+        at = f₄ .at;
         unborn =
-            record {
-              unreached = λ n o a. absurd (omega
-                  (arith, a .low, low n (same-reach-back k t t′ u low (w .tag-same) (w .child-same) o) .high));
-              kids = fr .kids;
-            };
+            record { unreached = λ n o a. absurd (omega (arith, a .low, f₄ .back n o .high)); kids = fr .kids };
       })))
       (λ e. rw (D .record-new .words) (omega arith))
       (λ n nm. names n (rw (D .record-new .words) at nm)))
     where
-      t : View
-      t = S .view
-
-      t′ : View
-      t′ = S′ .view
-
-      u : ℕ
-      u = S .nodes
-
       w : SwapPend k (S .nodes) (S .view) (S′ .view) p (4 * r + 1)
       w = D .flag
 
-      low : (n : ℕ) → Reach k (S .view) n → In (S .nodes) n
-      low n o = reach-used (omega arith) (I .shape) o
-
-      hp : In (S .nodes) p
-      hp = reach-used (omega arith) (I .shape) p-reached
-
-      l-reached : Reach k (S .view) (D .l)
-      l-reached = by (route k (S .view .key p) (D .x)) p-reached (D .inner) (route-slot k _ (omega arith) (D .x)) (sym (D .at))
-
       hl : In (S .nodes) (D .l)
-      hl = reach-used (omega arith) (I .shape) l-reached
+      hl = f₄ .below-used
 
-      p-l : p < D .l
-      p-l = rw (D .at) at (I .shape .above p (route k (S .view .key p) (D .x)) hp (D .inner) (route-slot k _ (omega arith) (D .x)))
-
-      -- a leaf straight below the root is never met
-      p-low : 2 ≤ p
-      p-low = go (ℕ-discrete p 1)
-        where
-          go : Dec (p ≡ 1) → 2 ≤ p
-          go (yes e) = absurd (D .leaf (cc (root-child hk I p (D .x) (D .finite) e, I .shape .crown .dummy-inner, D .at)))
-          go (no e) = omega (arith, hp .low)
-
-      fr : Fresh k (S′ .view) (S .nodes) (D .size) r (replace-words (D .l) p (S .nodes + 1) (D .process) (D .operation) (D .x))
+      fr : Grows k (S′ .view) (S .nodes) (D .size) r (replace-words (D .l) p (S .nodes + 1) (D .process) (D .operation) (D .x))
       fr =
-          drawn-fresh k (S .nodes) r (S .view) (S′ .view) (D .x) (D .operation) (D .l) p (D .process) (D .size) hk
+          drawn-grows k (S .nodes) r (S .view) (S′ .view) (D .x) (D .operation) (D .l) p (D .process) (D .size) hk
           (shape-pend hk (I .shape) (D .flag) (D .inner))
           (D .flag .tag-same (D .l) hl) (D .flag .key-same (D .l) hl) hl (D .leaf) (D .finite) (D .drawn)
 
@@ -211,18 +223,18 @@ module _ {k : ℕ} {S S′ : Shared} {r p : ℕ} (hk : 2 ≤ k) (I : Inv k (S .n
 
       names : (n : ℕ)
           → Names (replace-words (D .l) p (S .nodes + 1) (D .process) (D .operation) (D .x)) n → Reach k (S .view) n
-      names n (is-l e z) = rw z at l-reached
-      names n (is-p z) = rw z at p-reached
+      names n (is-l e z) = rw z at (f₄ .below-reached)
+      names n (is-p z) = rw z at (f₄ .reached)
       names n (is-gp e z) = absurd (omega arith)
 
 module _ {k : ℕ} {S S′ : Shared} {r gp : ℕ} (hk : 2 ≤ k) (I : Inv k (S .nodes) (S .records) (S .rec) (S .view))
     (D : DrawPrune k S S′ r gp) where
-  gp-reached : Reach k (S .view) gp
-  gp-reached = on-reach k (omega arith) (D .on)
+  f₅ : Flagged k S S′ (D .x) gp (D .p)
+  f₅ = flagged hk I (D .finite) (D .on) (D .inner) (D .at) (D .flag)
 
   pub draw-prune-touch : Touch k (S .nodes) (S .records) (S .rec) (S .view) (S′ .view) gp r 1 0
   draw-prune-touch =
-      draw-touch hk I r (D .seen) (D .record-new .next) gp-reached (D .clean) (rank-prune r) (λ a e. omega arith) (λ a e. omega arith)
+      draw-touch hk I r (D .seen) (D .record-new .next) (f₅ .reached) (D .clean) (rank-prune r) (λ a e. omega arith) (λ a e. omega arith)
       (D .flag)
 
   pub draw-prune-keeps : Inv k (S′ .nodes) (S′ .records) (S′ .rec) (S′ .view)
@@ -230,8 +242,8 @@ module _ {k : ℕ} {S S′ : Shared} {r gp : ℕ} (hk : 2 ≤ k) (I : Inv k (S .
       rw (D .counted, D .record-new .counted) (assemble-new (omega arith) I draw-prune-touch (D .record-new .next)
       (D .record-new .rec-same) (omega arith)
       (shape-pend hk (I .shape) w (D .inner))
-      (same-uniq k t t′ u low (w .tag-same) (w .child-same) (I .uniq))
-      (same-ordered k t t′ u low (w .tag-same) (w .child-same) (omega arith) (w .key-same) (I .ordered))
+      (f₅ .uniq)
+      (f₅ .ordered)
       (rw (w .pend-new) (pruning r refl (omega (arith, D .record-new .next)) (rw (D .record-new .words) refl)
       (rw (D .record-new .words) refl)))
       (λ n a b. absurd (omega arith))
@@ -245,11 +257,11 @@ module _ {k : ℕ} {S S′ : Shared} {r gp : ℕ} (hk : 2 ≤ k) (I : Inv k (S .
         replace = λ e. absurd (omega arith);
         prune = λ e. record {
           operation = refl;
-          gp-above = gp-p;
-          gp-low = gp-low;
-          gp-inner = w .tag-same gp hg ∙ D .inner;
+          gp-above = f₅ .above;
+          gp-low = f₅ .past-root (λ e. omega (arith, D .past-dummy));
+          gp-inner = w .tag-same gp (f₅ .used) ∙ D .inner;
           past-dummy = D .past-dummy;
-          alone = keys-same t t′ (D .l) (w .tag-same (D .l) hl) (w .key-same (D .l) hl) ∙ D .alone;
+          alone = keys-same (S .view) (S′ .view) (D .l) (w .tag-same (D .l) hl) (w .key-same (D .l) hl) ∙ D .alone;
           seen = D .seen-p;
           clean = refl;
           before = omega (arith, D .record-new .next, D .age, rank-clean (D .seen-p), word-rank (I .pending (D .p) hp));
@@ -259,7 +271,7 @@ module _ {k : ℕ} {S S′ : Shared} {r gp : ℕ} (hk : 2 ≤ k) (I : Inv k (S .
         held = record {
           flag = w .pend-new;
           on = draw-prune-touch .on (D .on) (D .inner) (λ q e. omega (arith, D .clean));
-          at = rw (w .key-same gp hg) (w .child-same gp (route k (t .key gp) (D .x)) hg (route-slot k _ (omega arith) (D .x)) ∙ D .at);
+          at = f₅ .at;
         };
         age = rw same (D .age);
         fine =
@@ -272,40 +284,11 @@ module _ {k : ℕ} {S S′ : Shared} {r gp : ℕ} (hk : 2 ≤ k) (I : Inv k (S .
       (λ e. absurd (let a : _≡_ {A = ℕ} 2 1 = rw (D .record-new .words) at e in omega arith))
       (λ n nm. names n (rw (D .record-new .words) at nm)))
     where
-      t : View
-      t = S .view
-
-      t′ : View
-      t′ = S′ .view
-
-      u : ℕ
-      u = S .nodes
-
       w : SwapPend k (S .nodes) (S .view) (S′ .view) gp (4 * r + 2)
       w = D .flag
 
-      low : (n : ℕ) → Reach k (S .view) n → In (S .nodes) n
-      low n o = reach-used (omega arith) (I .shape) o
-
-      hg : In (S .nodes) gp
-      hg = reach-used (omega arith) (I .shape) gp-reached
-
-      p-reached′ : Reach k (S .view) (D .p)
-      p-reached′ = by (route k (S .view .key gp) (D .x)) gp-reached (D .inner) (route-slot k _ (omega arith) (D .x)) (sym (D .at))
-
       hp : In (S .nodes) (D .p)
-      hp = reach-used (omega arith) (I .shape) p-reached′
-
-      gp-p : gp < D .p
-      gp-p = rw (D .at) at (I .shape .above gp (route k (S .view .key gp) (D .x)) hg (D .inner) (route-slot k _ (omega arith) (D .x)))
-
-      -- below the root there is the dummy
-      gp-low : 2 ≤ gp
-      gp-low = go (ℕ-discrete gp 1)
-        where
-          go : Dec (gp ≡ 1) → 2 ≤ gp
-          go (yes e) = absurd (let a : D .p ≡ 2 = sym (D .at) ∙ root-child hk I gp (D .x) (D .finite) e in omega (arith, D .past-dummy))
-          go (no e) = omega (arith, hg .low)
+      hp = f₅ .below-used
 
       hl : In (S .nodes) (D .l)
       hl = omega (arith, D .above, D .used)
@@ -314,10 +297,10 @@ module _ {k : ℕ} {S S′ : Shared} {r gp : ℕ} (hk : 2 ≤ k) (I : Inv k (S .
       l-one = sym (keys-count (S .view) (D .l)) ∙ rw (D .alone)
 
       same : S′ .view .pend (D .p) ≡ S .view .pend (D .p)
-      same = D .flag .pend-same (D .p) hp (λ z. omega (arith, gp-p))
+      same = D .flag .pend-same (D .p) hp (λ z. omega (arith, f₅ .above))
 
       names : (n : ℕ)
           → Names (prune-words (D .l) (D .p) gp (4 * D .seen-p) (D .process) (D .x)) n → Reach k (S .view) n
       names n (is-l e z) = absurd (omega arith)
-      names n (is-p z) = rw z at p-reached′
-      names n (is-gp e z) = rw z at gp-reached
+      names n (is-p z) = rw z at (f₅ .below-reached)
+      names n (is-gp e z) = rw z at (f₅ .reached)

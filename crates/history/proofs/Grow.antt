@@ -7,7 +7,9 @@ use native.Mathlib.Nat.{mul-suc, add-zero, add-suc}
 use native.Mathlib.Numerals.{add-one}
 use native.Mathlib.Decide.{ℕ-discrete, decLt, decLe}
 use native.Mathlib.Omega.{arith}
-use Rattle.history.specs.View.{View, In, infinity, keys, keys-from}
+use Rattle.tables.specs.Numbers.{infinity}
+use Rattle.tables.specs.Choice.{listed}
+use Rattle.history.specs.View.{View, In, keys}
 use Rattle.history.specs.Keys.{none, next}
 use Rattle.history.specs.Change.{Sprout}
 use Rattle.history.proofs.Brings.{keys-one}
@@ -102,7 +104,7 @@ module _ {k u : ℕ} {t : View} (s : Shape k u t) where
       lc n h e (yes z) = s .leaf-clean n (omega arith) e
       lc n h e (no z) = rw (is n h z) c
 
-  pub grow-sprout : {r : ℕ} {ks : List ℕ} → 2 ≤ k → Sprout k t (u + 1) r ks → Sorted (keys-from (t .key (u + 1)) (k - 1) 1)
+  pub grow-sprout : {r : ℕ} {ks : List ℕ} → 2 ≤ k → Sprout k t (u + 1) r ks → Sorted (listed (t .key (u + 1)) 1 (k - 1))
       → ((j : ℕ) → In k j → t .key (u + 1 + j) 1 < infinity) → Shape k (u + (k + 1)) t
   unfolding inner-count
   grow-sprout {r} {ks} hk p so fin = record {
@@ -151,7 +153,7 @@ module _ {k u : ℕ} {t : View} (s : Shape k u t) where
       lk n h e (is-top z) = absurd (e (rw z (p .inner)))
       lk n h e (is-kid j i z) = rw (z, keys-one t (u + 1 + j) (p .leaf-tag j i)) (sorted-one (t .key (u + 1 + j) 1) (fin j i))
 
-      ik : (n : ℕ) → 2 < n → t .tag n ≡ k → Part k u n → Sorted (keys-from (t .key n) (k - 1) 1)
+      ik : (n : ℕ) → 2 < n → t .tag n ≡ k → Part k u n → Sorted (listed (t .key n) 1 (k - 1))
       ik n a e (is-old b) = s .inner-keys n a (b .high) e
       ik n a e (is-top z) = rw z so
       ik n a e (is-kid j i z) = absurd (let y : t .tag (u + 1 + j) ≡ k = rw z at e in omega (arith, p .leaf-tag j i))

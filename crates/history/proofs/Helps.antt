@@ -37,13 +37,11 @@ pub record Notes (k : ℕ) (s : Shared) (r index other : ℕ) : Type 0 where
 
 -- 12, 13: all children of p were looked at; p is looked for below gp, or found
 pub record LooksForP (k : ℕ) (s : Shared) (r index other : ℕ) : Type 0 where
-  pub marks : Marks s r
-  pub noted : Noted k (s .view) (s .rec r .p) (s .rec r .l) (suc k) other
+  pub notes : Notes k s r (suc k) other
   pub passed : Passed k s r (s .rec r .third) index
 
 pub record SwapsP (k : ℕ) (s : Shared) (r index other : ℕ) : Type 0 where
-  pub marks : Marks s r
-  pub noted : Noted k (s .view) (s .rec r .p) (s .rec r .l) (suc k) other
+  pub notes : Notes k s r (suc k) other
   pub placed : Placed k s r (s .rec r .third) index
 
 -- by the point
@@ -105,37 +103,35 @@ module _ {k : ℕ} {s : Shared} (hk : 2 ≤ k) (I : Sound k s) (r : ℕ) (h : In
   always-one m n = noted-end (pair-marked hk I r h (m .0) (m .1)) n
 
   pub all-noted : {other : ℕ} → Notes k s r (suc k) other → LooksForP k s r 1 other
-  all-noted w = record { marks = w .marks; noted = w .noted; passed = passed-first hk r (s .rec r .third) }
+  all-noted w = record { notes = w; passed = passed-first hk r (s .rec r .third) }
 
   -- 12: one child of gp read
   pub p-found : {index other : ℕ} → LooksForP k s r index other → In k index → s .view .child (s .rec r .third) index ≡ s .rec r .p
       → SwapsP k s r index other
   unfolding Marks
   p-found w i e = record {
-    marks = w .marks;
-    noted = w .noted;
-    placed = placed-found hk (searching-prune hk I r h (w .marks .0) (w .marks .1)) i e;
+    notes = w .notes;
+    placed = placed-found hk (searching-prune hk I r h (w .notes .marks .0) (w .notes .marks .1)) i e;
   }
 
   pub p-not-here : {index other : ℕ} → LooksForP k s r index other → s .view .child (s .rec r .third) index ≢ s .rec r .p
       → LooksForP k s r (suc index) other
   unfolding Marks
   p-not-here w e = record {
-    marks = w .marks;
-    noted = w .noted;
-    passed = passed-next hk (searching-prune hk I r h (w .marks .0) (w .marks .1)) e (w .passed);
+    notes = w .notes;
+    passed = passed-next hk (searching-prune hk I r h (w .notes .marks .0) (w .notes .marks .1)) e (w .passed);
   }
 
   pub p-nowhere : {other : ℕ} → LooksForP k s r (suc k) other → Ends k s r 2
   unfolding Marks
-  p-nowhere w = record { is = w .marks .0; done = passed-end hk (w .passed) }
+  p-nowhere w = record { is = w .notes .marks .0; done = passed-end hk (w .passed) }
 
   -- 13: the child is not p any more
   pub p-swapped-before : {index other : ℕ} → SwapsP k s r index other → s .view .child (s .rec r .third) index ≢ s .rec r .p → Ends k s r 2
   unfolding Marks
   p-swapped-before w e = record {
-    is = w .marks .0;
-    done = placed-missed hk (searching-prune hk I r h (w .marks .0) (w .marks .1)) (w .placed) e;
+    is = w .notes .marks .0;
+    done = placed-missed hk (searching-prune hk I r h (w .notes .marks .0) (w .notes .marks .1)) (w .placed) e;
   }
 
 module _ {k : ℕ} {s s′ : Shared} (hk : 2 ≤ k) (I : Sound k s) (c : Step k s s′) where
@@ -143,10 +139,12 @@ module _ {k : ℕ} {s s′ : Shared} (hk : 2 ≤ k) (I : Sound k s) (c : Step k 
   unfolding Marks
   marks-stay {r} h m = rw (grown hk I c .rec-same r h) (m .0, frozen hk I (s .rec r .p) r c (p-used (I .inv) r h) (m .1) .pend-same ∙ m .1)
 
-  noted-goes-on : {r i other : ℕ} → In (s .records) r → Marks s r → Noted k (s .view) (s .rec r .p) (s .rec r .l) i other
-      → Noted k (s′ .view) (s′ .rec r .p) (s′ .rec r .l) i other
+  notes-stay : {r i other : ℕ} → In (s .records) r → Notes k s r i other → Notes k s′ r i other
   unfolding Marks
-  noted-goes-on {r} h m n = rw (grown hk I c .rec-same r h) (noted-stays r hk I c (p-used (I .inv) r h) (I .inv .good r h .inner) (m .1) n)
+  notes-stay {r} h w = record {
+    marks = marks-stay h (w .marks);
+    noted = rw (grown hk I c .rec-same r h) (noted-stays r hk I c (p-used (I .inv) r h) (I .inv .good r h .inner) (w .marks .1) (w .noted));
+  }
 
   kind-stays : {r v : ℕ} → In (s .records) r → s .rec r .kind ≡ v → s′ .rec r .kind ≡ v
   kind-stays {r} h e = rw (grown hk I c .rec-same r h) e
@@ -173,19 +171,14 @@ module _ {k : ℕ} {s s′ : Shared} (hk : 2 ≤ k) (I : Sound k s) (c : Step k 
   helps-stays r index other (suc (suc (suc (suc (suc (suc (suc (suc zero)))))))) h w = ends-stay h w
   helps-stays r index other (suc (suc (suc (suc (suc (suc (suc (suc (suc zero))))))))) h w = kind-stays h w
   helps-stays r index other (suc (suc (suc (suc (suc (suc (suc (suc (suc (suc zero)))))))))) h w = failed-stays hk I r c h w
-  helps-stays r index other (suc (suc (suc (suc (suc (suc (suc (suc (suc (suc (suc zero))))))))))) h w = record {
-    marks = marks-stay h (w .marks);
-    noted = noted-goes-on h (w .marks) (w .noted);
-  }
+  helps-stays r index other (suc (suc (suc (suc (suc (suc (suc (suc (suc (suc (suc zero))))))))))) h w = notes-stay h w
   helps-stays r index other (suc (suc (suc (suc (suc (suc (suc (suc (suc (suc (suc (suc zero)))))))))))) h w = record {
-    marks = marks-stay h (w .marks);
-    noted = noted-goes-on h (w .marks) (w .noted);
-    passed = rw (grown hk I c .rec-same r h) (passed-stays hk I c h (gp-used (I .inv) r h (w .marks .0)) (w .passed));
+    notes = notes-stay h (w .notes);
+    passed = rw (grown hk I c .rec-same r h) (passed-stays hk I c h (gp-used (I .inv) r h (w .notes .marks .0)) (w .passed));
   }
   helps-stays r index other (suc (suc (suc (suc (suc (suc (suc (suc (suc (suc (suc (suc (suc zero))))))))))))) h w = record {
-    marks = marks-stay h (w .marks);
-    noted = noted-goes-on h (w .marks) (w .noted);
-    placed = rw (grown hk I c .rec-same r h) (placed-stays hk I c h (gp-used (I .inv) r h (w .marks .0)) (w .placed));
+    notes = notes-stay h (w .notes);
+    placed = rw (grown hk I c .rec-same r h) (placed-stays hk I c h (gp-used (I .inv) r h (w .notes .marks .0)) (w .placed));
   }
   helps-stays r index other (suc (suc (suc (suc (suc (suc (suc (suc (suc (suc (suc (suc (suc (suc zero)))))))))))))) h w = ends-stay h w
   helps-stays r index other (suc (suc (suc (suc (suc (suc (suc (suc (suc (suc (suc (suc (suc (suc (suc n))))))))))))))) h w = absurd w

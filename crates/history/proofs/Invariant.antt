@@ -5,8 +5,11 @@ use mathlib.Core.List.{List, [], _∷_, List·Memᴰ}
 use Prim.Native.Nat.{ℕ, zero, suc, _+_, _*_, _-_, _≤_, _<_}
 use native.Mathlib.Decide.{ℕ-discrete, decLt}
 use lib.ListN.{getD}
-use Rattle.history.specs.View.{View, In, infinity, route, keys, keys-from, On, Reach, Ordered}
-use Rattle.history.specs.Keys.{put-in, take-out, Rises}
+use Rattle.tables.specs.Numbers.{infinity}
+use Rattle.tables.specs.Choice.{listed}
+use Rattle.tables.specs.Keys.{putIn, takenOut}
+use Rattle.history.specs.View.{View, In, route, keys, On, Reach, Ordered}
+use Rattle.history.specs.Keys.{Rises}
 use Rattle.history.specs.Shared.{Desc, Shared, NoChild, Pair}
 use Rattle.history.specs.Change.{rank}
 use Rattle.history.proofs.Paths.{Uniq}
@@ -43,20 +46,20 @@ pub record Shape (k u : ℕ) (t : View) : Type 0 where
   pub above : (n j : ℕ) → In u n → t .tag n ≡ k → In k j → n < t .child n j
   pub used : (n j : ℕ) → In u n → t .tag n ≡ k → In k j → t .child n j ≤ u
   pub leaf-keys : (n : ℕ) → In u n → t .tag n ≢ k → Sorted (keys t n)
-  pub inner-keys : (n : ℕ) → 2 < n → n ≤ u → t .tag n ≡ k → Sorted (keys-from (t .key n) (k - 1) 1)
+  pub inner-keys : (n : ℕ) → 2 < n → n ≤ u → t .tag n ≡ k → Sorted (listed (t .key n) 1 (k - 1))
   pub leaf-clean : (n : ℕ) → In u n → t .tag n ≢ k → t .pend n ≡ 0
   pub room : k * inner-count k t u + (2 * k + 1) ≤ u
 
 -- what a replace drew: its leaf's keys with the key put in, or taken out, or the sprout of both
 pub data Made (k : ℕ) (t : View) (d : Desc) : Type 0 where
   put : d .operation ≡ 2 → ¬ List·Memᴰ (d .key) (keys t (d .l)) → t .tag (d .third) ≢ k
-      → keys t (d .third) ≡ put-in (d .key) (keys t (d .l)) → Made k t d
+      → keys t (d .third) ≡ putIn (d .key) (keys t (d .l)) → Made k t d
   out : d .operation ≡ 3 → List·Memᴰ (d .key) (keys t (d .l)) → t .tag (d .third) ≢ k
-      → keys t (d .third) ≡ take-out (d .key) (keys t (d .l)) → Made k t d
+      → keys t (d .third) ≡ takenOut (d .key) (keys t (d .l)) → Made k t d
   sprouted : d .operation ≡ 2 → ¬ List·Memᴰ (d .key) (keys t (d .l)) → t .tag (d .third) ≡ k → t .tag (d .l) + 1 ≡ k
-      → ((i : ℕ) → 1 ≤ i → i < k → t .key (d .third) i ≡ getD (put-in (d .key) (keys t (d .l))) i 0)
+      → ((i : ℕ) → 1 ≤ i → i < k → t .key (d .third) i ≡ getD (putIn (d .key) (keys t (d .l))) i 0)
       → ((j : ℕ) → In k j → t .tag (d .third + j) ≡ 1)
-      → ((j : ℕ) → In k j → t .key (d .third + j) 1 ≡ getD (put-in (d .key) (keys t (d .l))) (j - 1) 0) → Made k t d
+      → ((j : ℕ) → In k j → t .key (d .third + j) 1 ≡ getD (putIn (d .key) (keys t (d .l))) (j - 1) 0) → Made k t d
 
 pub record GoodReplace (k u : ℕ) (t : View) (d : Desc) : Type 0 where
   pub made : Made k t d

@@ -4,8 +4,9 @@ use Prim.Native.Nat.{ℕ, _≤_}
 use native.Mathlib.Omega.{arith}
 use Rattle.history.specs.View.{View, In}
 use Rattle.history.specs.Shared.{Desc, Shared}
-use Rattle.history.specs.Change.{SameTables, Change, draw-replace, draw-prune, swap-replace, unflag-replace, mark, swap-prune}
+use Rattle.history.specs.Change.{SameTables, NewRecord, Change, draw-replace, draw-prune, swap-replace, unflag-replace, mark, swap-prune}
 use Rattle.history.specs.Change.{unflag-prune}
+use Rattle.history.specs.Effects.{Grown}
 use Rattle.history.specs.Run.{Step, changes, rests}
 use Rattle.history.proofs.Invariant.{Inv, Sound}
 use Rattle.history.proofs.Touch.{Touch}
@@ -25,9 +26,7 @@ pub record Touched (k : ℕ) (S S′ : Shared) : Type 0 where
   pub low : ℕ
   pub high : ℕ
   pub touch : Touch k (S .nodes) (S .records) (S .rec) (S .view) (S′ .view) at for low high
-  pub nodes-more : S .nodes ≤ S′ .nodes
-  pub records-more : S .records ≤ S′ .records
-  pub rec-same : (q : ℕ) → In (S .records) q → S′ .rec q ≡ S .rec q
+  pub grown : Grown S S′
 
 -- the invariant speaks of records in use alone
 retable : {k u m : ℕ} {T T′ : ℕ → Desc} {t : View} → ((q : ℕ) → In m q → T′ q ≡ T q) → Inv k u m T t → Inv k u m T′ t
@@ -46,41 +45,30 @@ retable {k} {u} {m} {T} {T′} {t} same I = record {
 with-tables : {k : ℕ} {S S′ : Shared} → SameTables S S′ → Inv k (S .nodes) (S .records) (S .rec) (S′ .view) → Sound k S′
 with-tables {k} {S} {S′} e I = record { inv = rw (e .nodes-same, e .records-same) (retable (e .rec-same) I) }
 
-same-touched : {k : ℕ} {S S′ : Shared} {x r low high : ℕ} → SameTables S S′
+touched-by : {k : ℕ} {S S′ : Shared} {x r low high : ℕ} → S .nodes ≤ S′ .nodes → S .records ≤ S′ .records
+    → ((q : ℕ) → In (S .records) q → S′ .rec q ≡ S .rec q)
     → Touch k (S .nodes) (S .records) (S .rec) (S .view) (S′ .view) x r low high → Touched k S S′
-same-touched {k} {S} {S′} {x} {r} {low} {high} e w = record {
+touched-by {x = x} {r = r} {low = low} {high = high} n m e w = record {
   at = x;
   for = r;
   low = low;
   high = high;
   touch = w;
-  nodes-more = omega (arith, e .nodes-same);
-  records-more = omega (arith, e .records-same);
-  rec-same = e .rec-same;
+  grown = record { nodes-more = n; records-more = m; tag-same = w .tag-same; key-same = w .key-same; rec-same = e };
 }
+
+same-touched : {k : ℕ} {S S′ : Shared} {x r low high : ℕ} → SameTables S S′
+    → Touch k (S .nodes) (S .records) (S .rec) (S .view) (S′ .view) x r low high → Touched k S S′
+same-touched e w = touched-by (omega (arith, e .nodes-same)) (omega (arith, e .records-same)) (e .rec-same) w
+
+new-touched : {k : ℕ} {S S′ : Shared} {x r low high : ℕ} {d : Desc} → S .nodes ≤ S′ .nodes → NewRecord S S′ r d
+    → Touch k (S .nodes) (S .records) (S .rec) (S .view) (S′ .view) x r low high → Touched k S S′
+new-touched l n w = touched-by l (omega (arith, n .counted, n .next)) (n .rec-same) w
 
 module _ {k : ℕ} {S S′ : Shared} (hk : 2 ≤ k) (I : Sound k S) where
   change-touched : Change k S S′ → Touched k S S′
-  change-touched (draw-replace r p d) = record {
-    at = p;
-    for = r;
-    low = 1;
-    high = 0;
-    touch = draw-replace-touch hk (I .inv) d;
-    nodes-more = omega (arith, d .counted);
-    records-more = omega (arith, d .record-new .counted, d .record-new .next);
-    rec-same = d .record-new .rec-same;
-  }
-  change-touched (draw-prune r gp d) = record {
-    at = gp;
-    for = r;
-    low = 1;
-    high = 0;
-    touch = draw-prune-touch hk (I .inv) d;
-    nodes-more = omega (arith, d .counted);
-    records-more = omega (arith, d .record-new .counted, d .record-new .next);
-    rec-same = d .record-new .rec-same;
-  }
+  change-touched (draw-replace r p d) = new-touched (omega (arith, d .counted)) (d .record-new) (draw-replace-touch hk (I .inv) d)
+  change-touched (draw-prune r gp d) = new-touched (omega (arith, d .counted)) (d .record-new) (draw-prune-touch hk (I .inv) d)
   change-touched (swap-replace r i h kd s e w same) =
       same-touched same (swap-replace-touch hk (I .inv) h kd (waiting (omega arith) (I .inv) r h kd s e) s e w)
   change-touched (unflag-replace r h kd e d w same) = same-touched same (unflag-replace-touch hk (I .inv) r h kd w e)

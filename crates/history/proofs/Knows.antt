@@ -45,17 +45,21 @@ pub data Job (t : View) (M : Mind) : Type 0 where
   to-put : M .operation ≡ 2 → ¬ List·Memᴰ (M .key) (keys t (M .l)) → Job t M
   to-take : M .operation ≡ 3 → List·Memᴰ (M .key) (keys t (M .l)) → Job t M
 
--- points 3 and 5: p's and gp's pendings were clean when read, and l has the key
-pub record Deleting (k : ℕ) (S : ℕ → Shared) (i j : ℕ) (M : Mind) (a : ℕ) : Type 0 where
+-- points 3 to 5: at the leaf l, and p's pending was clean when read
+pub record Arrived (k : ℕ) (S : ℕ → Shared) (i j : ℕ) (M : Mind) : Type 0 where
   pub e : ℕ
-  pub g : ℕ
   pub p-clean : M .pseen ≡ 4 * e
-  pub gp-clean : M .gseen ≡ 4 * g
   pub leaf : AtLeaf k S i j (M .key) (M .p) (M .l) e
+
+-- points 3 and 5: gp's pending was clean too, and l has the key
+pub record Deleting (k : ℕ) (S : ℕ → Shared) (i j : ℕ) (M : Mind) (a : ℕ) : Type 0 where
+  pub arrived : Arrived k S i j M
+  pub g : ℕ
+  pub gp-clean : M .gseen ≡ 4 * g
   pub up : Up k S i j (M .key) (M .gp) (M .p) (M .gseen)
   pub has : List·Memᴰ (M .key) (keys (S j .view) (M .l))
   pub passed : a ≤ k
-  pub counted : Counted (S j) (M .p) e a (M .ones)
+  pub counted : Counted (S j) (M .p) (arrived .e) a (M .ones)
 
 -- 1: on the way down
 pub record Descends (k : ℕ) (S : ℕ → Shared) (i j : ℕ) (M : Mind) : Type 0 where
@@ -64,8 +68,7 @@ pub record Descends (k : ℕ) (S : ℕ → Shared) (i j : ℕ) (M : Mind) : Type
 
 -- 2: and p's pending read
 pub record Reads (k : ℕ) (S : ℕ → Shared) (i j : ℕ) (M : Mind) : Type 0 where
-  pub way : Way k S i j (M .key) (M .p)
-  pub from : Above k S i j (M .key) (M .gp) (M .p) (M .gseen)
+  pub descends : Descends k S i j M
   pub read : Read (S j) (M .p) (M .pseen)
 
 -- 3: the children before the index are counted
@@ -75,9 +78,7 @@ pub record Counts (k : ℕ) (S : ℕ → Shared) (i j : ℕ) (M : Mind) : Type 0
 
 -- 4: ready to replace l
 pub record Replaces (k : ℕ) (S : ℕ → Shared) (i j : ℕ) (M : Mind) : Type 0 where
-  pub e : ℕ
-  pub p-clean : M .pseen ≡ 4 * e
-  pub leaf : AtLeaf k S i j (M .key) (M .p) (M .l) e
+  pub arrived : Arrived k S i j M
   pub job : Job (S j .view) M
 
 -- 5: ready to prune p
@@ -121,40 +122,36 @@ module _ {k : ℕ} {s s′ : Shared} (hk : 2 ≤ k) (I : Sound k s) (c : Step k 
       (rw (g .rec-same (M .own) h) d) e f
 
 module _ {k : ℕ} {S : ℕ → Shared} {i j : ℕ} {M : Mind} (hk : 2 ≤ k) (I : Sound k (S j)) (c : Step k (S j) (S (suc j))) where
+  arrived-stays : Arrived k S i j M → Arrived k S i (suc j) M
+  arrived-stays w = record { e = w .e; p-clean = w .p-clean; leaf = leaf-stays hk I c (w .leaf) }
+
   deleting-stays : {a : ℕ} → Deleting k S i j M a → Deleting k S i (suc j) M a
+  unfolding arrived-stays
   deleting-stays d = record {
-    e = d .e;
+    arrived = arrived-stays (d .arrived);
     g = d .g;
-    p-clean = d .p-clean;
     gp-clean = d .gp-clean;
-    leaf = leaf-stays hk I c (d .leaf);
     up = up-stays hk I c (d .up);
-    has = rw (row-stays hk I c (M .l) (d .leaf .used)) (d .has);
+    has = rw (row-stays hk I c (M .l) (d .arrived .leaf .used)) (d .has);
     passed = d .passed;
-    counted = counted-stays hk I c (d .leaf .way .used) (d .leaf .way .inner) (d .passed) (d .counted);
+    counted = counted-stays hk I c (d .arrived .leaf .way .used) (d .arrived .leaf .way .inner) (d .passed) (d .counted);
   }
 
 module _ {k : ℕ} (S : ℕ → Shared) (i j : ℕ) (M : Mind) (hk : 2 ≤ k) (I : Sound k (S j)) (c : Step k (S j) (S (suc j))) where
+  descends-on : Descends k S i j M → Descends k S i (suc j) M
+  descends-on w = record { way = way-stays hk I c (w .way); from = above-stays hk I c (w .from) }
+
   -- whoever takes the step
   pub stays-at : (point : ℕ) → KnowsAt k S i j M point → KnowsAt k S i (suc j) M point
   stays-at zero w = absurd w
-  stays-at (suc zero) w = record { way = way-stays hk I c (w .way); from = above-stays hk I c (w .from) }
-  stays-at (suc (suc zero)) w = record {
-    way = way-stays hk I c (w .way);
-    from = above-stays hk I c (w .from);
-    read = read-stays hk I c (w .way .used) (w .read);
-  }
+  stays-at (suc zero) w = descends-on w
+  stays-at (suc (suc zero)) w = record { descends = descends-on (w .descends); read = read-stays hk I c (w .descends .way .used) (w .read) }
   stays-at (suc (suc (suc zero))) w = record { index-in = w .index-in; delete = deleting-stays hk I c (w .delete) }
-  stays-at (suc (suc (suc (suc zero)))) w = record {
-    e = w .e;
-    p-clean = w .p-clean;
-    leaf = leaf-stays hk I c (w .leaf);
-    job = job-stays hk I c (w .leaf .used) (w .job);
-  }
+  stays-at (suc (suc (suc (suc zero)))) w = record { arrived = arrived-stays hk I c (w .arrived); job = job-stays hk I c (w .arrived .leaf .used) (w .job) }
   stays-at (suc (suc (suc (suc (suc zero))))) w = record {
     delete = deleting-stays hk I c (w .delete);
     two = w .two;
-    one = grown hk I c .tag-same (M .l) (w .delete .leaf .used) ∙ w .one;
+    one = grown hk I c .tag-same (M .l) (w .delete .arrived .leaf .used) ∙ w .one;
   }
   stays-at (suc (suc (suc (suc (suc (suc n)))))) w = record {
     used = omega (arith, w .used, grown hk I c .records-more);

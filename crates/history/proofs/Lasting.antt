@@ -23,16 +23,7 @@ pub record Frozen (k : ℕ) (S S′ : Shared) (n : ℕ) : Type 0 where
 
 module _ {k : ℕ} {S S′ : Shared} (hk : 2 ≤ k) (I : Sound k S) where
   pub grown : Step k S S′ → Grown S S′
-  grown c = go (touched hk I c)
-    where
-      go : Touched k S S′ → Grown S S′
-      go w = record {
-        nodes-more = w .nodes-more;
-        records-more = w .records-more;
-        tag-same = w .touch .tag-same;
-        key-same = w .touch .key-same;
-        rec-same = w .rec-same;
-      }
+  grown c = touched hk I c .grown
 
   pub done-stays : (r : ℕ) → Step k S S′ → In (S .records) r → Done k (S .view) (S .rec r) r → Done k (S′ .view) (S′ .rec r) r
   done-stays r c h d = go (touched hk I c) d
@@ -40,10 +31,10 @@ module _ {k : ℕ} {S S′ : Shared} (hk : 2 ≤ k) (I : Sound k S) where
       go : Touched k S S′ → Done k (S .view) (S .rec r) r → Done k (S′ .view) (S′ .rec r) r
       go w (replaced e a) =
           let v = keep-over (omega arith) (I .inv) (w .touch) r h e (done-over (omega arith) (I .inv) r h e d) in
-          rw (w .rec-same r h) (replaced e (v .no-child))
+          rw (w .grown .rec-same r h) (replaced e (v .no-child))
       go w (pruned e mk a) =
           let v = keep-finished (omega arith) (I .inv) (w .touch) r h e (done-finished (omega arith) (I .inv) r h e d) in
-          rw (w .rec-same r h) (pruned e (v .mark) (v .no-child))
+          rw (w .grown .rec-same r h) (pruned e (v .mark) (v .no-child))
 
   pub failed-stays : (r : ℕ) → Step k S S′ → In (S .records) r → Failed (S .view) (S .rec r) r → Failed (S′ .view) (S′ .rec r) r
   failed-stays r c h f = go (touched hk I c)
@@ -56,7 +47,7 @@ module _ {k : ℕ} {S S′ : Shared} (hk : 2 ≤ k) (I : Sound k S) where
       }
 
       go : Touched k S S′ → Failed (S′ .view) (S′ .rec r) r
-      go w = rw (w .rec-same r h) (still (keep-dropped (omega arith) (I .inv) (w .touch) r h (failed-dropped (omega arith) (I .inv) r h f)))
+      go w = rw (w .grown .rec-same r h) (still (keep-dropped (omega arith) (I .inv) (w .touch) r h (failed-dropped (omega arith) (I .inv) r h f)))
 
   pub frozen : (n q : ℕ) → Step k S S′ → In (S .nodes) n → S .view .pend n ≡ 4 * q + 3 → Frozen k S S′ n
   frozen n q c h e = go (touched hk I c)

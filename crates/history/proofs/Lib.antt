@@ -4,7 +4,7 @@
 pub mod Rank
 pub mod Route
 pub mod Rows
-pub mod Within
+pub mod Alone
 -- paths, and what the two swaps do to them
 pub mod Paths
 pub mod SearchOrder
@@ -34,7 +34,7 @@ pub mod Quiet
 pub mod Runs
 pub mod SearchPath
 pub mod Swapping
--- the walk
+-- what a walk meets
 pub mod Walking
 -- what a process remembers, and knows at each point
 pub mod Pairs

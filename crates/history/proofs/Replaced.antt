@@ -30,10 +30,14 @@ span-leaf k tag h = go (ℕ-discrete tag k)
     go (yes e) = absurd (h e)
     go (no e) = refl
 
+-- n is one of the numbers from least to most: none where most is 0
+pub record Between (least most n : ℕ) : Type 0 where
+  pub low : least ≤ n
+  pub high : n ≤ most
+
 -- n is one of the numbers that the new node takes
-pub record NewOf (k : ℕ) (t : View) (new n : ℕ) : Type 0 where
-  pub low : new ≤ n
-  pub high : n ≤ new + span k (t .tag new)
+abbrev pub NewOf : ℕ → View → ℕ → ℕ → Type 0
+NewOf k t new n = Between new (new + span k (t .tag new)) n
 
 module _ (k : ℕ) where
   -- new and, if it is internal, its children are numbers that the tree has not reached

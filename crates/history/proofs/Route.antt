@@ -1,12 +1,16 @@
 -- The child for a key: it is a child index, it goes with the order of keys, and where it is known.
-use mathlib.Core.Path.{_≡_, refl}
+use mathlib.Core.Path.{_≡_, ap}
 use mathlib.Core.Bool.{Bool, true, false}
 use mathlib.Core.Logic.{_⊎_, inl, inr}
+use mathlib.Core.List.{List}
 use Prim.Native.Nat.{ℕ, zero, suc, _+_, _-_, _≤_, _<_}
 use native.Mathlib.Decide.{decLt}
 use native.Mathlib.Omega.{arith}
 use lib.Dec.{T, ltb, ltb→lt, nltb→le}
-use Rattle.history.specs.View.{In, route, route-from}
+use Rattle.tables.specs.Choice.{pick, listed}
+use Rattle.tables.specs.Keys.{firstAt, greaterAt}
+use Rattle.tables.proofs.Lists.{listed-ext}
+use Rattle.history.specs.View.{In, route}
 
 pub tri : (i j : ℕ) → (i < j) ⊎ ((j < i) ⊎ (i ≡ j))
 tri i j = go (decLt i j) (decLt j i)
@@ -23,23 +27,23 @@ record Found (f : ℕ → ℕ) (x d i j : ℕ) : Type 0 where
   past : (a : ℕ) → i ≤ a → a < j → f a ≤ x
   here : j < i + d → x < f j
 
-found : (f : ℕ → ℕ) (x d i : ℕ) → Found f x d i (route-from f x d i)
-unfolding route-from
+found : (f : ℕ → ℕ) (x d i : ℕ) → Found f x d i (greaterAt x (listed f i d) + i)
+unfolding listed firstAt pick
 found f x zero i = record { low = omega arith; high = omega arith; past = λ a h g. absurd (omega arith); here = λ h. absurd (omega arith) }
-found f x (suc d) i = go (ltb x (f i)) (λ t. ltb→lt x (f i) t) (λ t. nltb→le x (f i) t) (found f x d (suc i))
+found f x (suc d) i = go (ltb x (f i)) (λ t. ltb→lt x (f i) t) (λ t. nltb→le x (f i) t) (greaterAt x (listed f (i + 1) d)) (found f x d (i + 1))
   where
-    go : (c : Bool) → (T c → x < f i) → (T (mathlib.Core.Bool.not c) → f i ≤ x) → Found f x d (suc i) (route-from f x d (suc i))
-        → Found f x (suc d) i (elim c [ true ↦ i | false ↦ route-from f x d (suc i) ])
-    go true y n r = record { low = omega arith; high = omega arith; past = λ a h g. absurd (omega arith); here = λ h. y tt }
-    go false y n r = record {
-      low = omega (arith, r .low);
+    go : (c : Bool) → (T c → x < f i) → (T (mathlib.Core.Bool.not c) → f i ≤ x) → (m : ℕ) → Found f x d (i + 1) (m + (i + 1))
+        → Found f x (suc d) i (pick c 0 (m + 1) + i)
+    go true y n m r = record { low = omega arith; high = omega arith; past = λ a h g. absurd (omega arith); here = λ h. let z : 0 + i ≡ i = omega arith in rw z (y tt) }
+    go false y n m r = record {
+      low = omega arith;
       high = omega (arith, r .high);
-      past = λ a h g. old a h g (decLt i a);
-      here = λ h. r .here (omega arith);
+      past = λ a h g. old a h (omega arith) (decLt i a);
+      here = λ h. let z : m + (i + 1) ≡ m + 1 + i = omega arith in rw z at (r .here (omega arith));
     }
       where
-        old : (a : ℕ) → i ≤ a → a < route-from f x d (suc i) → Dec (i < a) → f a ≤ x
-        old a h g (yes z) = r .past a z g
+        old : (a : ℕ) → i ≤ a → a < m + (i + 1) → Dec (i < a) → f a ≤ x
+        old a h g (yes z) = r .past a (omega arith) g
         old a h g (no z) = let e : i ≡ a = omega arith in rw e at (n tt)
 
 module _ (k : ℕ) (f : ℕ → ℕ) (hk : 1 ≤ k) where
@@ -76,20 +80,6 @@ module _ (k : ℕ) (f : ℕ → ℕ) (hk : 1 ≤ k) where
   route-first x h = route-is x 1 (omega arith) (λ a p q. absurd (omega arith)) (λ g. h 1 (omega arith) g)
 
 -- the route looks at the keys 1 to k - 1 alone
-from-like : (f g : ℕ → ℕ) (x d i : ℕ) → ((a : ℕ) → i ≤ a → a < i + d → f a ≡ g a) → route-from f x d i ≡ route-from g x d i
-unfolding route-from
-from-like f g x zero i h = refl
-from-like f g x (suc d) i h =
-    go (ltb x (f i)) (ltb x (g i)) (rw (h i (omega arith) (omega arith)))
-    (from-like f g x d (suc i) (λ a p q. h a (omega arith) (omega arith)))
-  where
-    go : (c c′ : Bool) → c ≡ c′ → route-from f x d (suc i) ≡ route-from g x d (suc i)
-        → _≡_ {A = ℕ} (elim c [ true ↦ i | false ↦ route-from f x d (suc i) ]) (elim c′ [ true ↦ i | false ↦ route-from g x d (suc i) ])
-    go true true e r = refl
-    go false false e r = r
-    go true false e r = absurd (let z : _≡_ {A = ℕ} 0 1 = cc in omega arith)
-    go false true e r = absurd (let z : _≡_ {A = ℕ} 0 1 = cc in omega arith)
-
 pub route-like : (k : ℕ) (f g : ℕ → ℕ) (x : ℕ) → ((a : ℕ) → 1 ≤ a → a < k → f a ≡ g a) → route k f x ≡ route k g x
 unfolding route
-route-like k f g x h = from-like f g x (k - 1) 1 (λ a p q. h a p (omega arith))
+route-like k f g x h = ap (λ (ks : List ℕ). greaterAt x ks + 1) (listed-ext f g 1 (k - 1) (λ j l. h (1 + j) (omega arith) (omega arith)))

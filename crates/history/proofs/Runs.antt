@@ -29,10 +29,7 @@ grown-join {A} {B} {C} a b = record {
   rec-same = λ q h. b .rec-same q (omega (arith, h, a .records-more)) ∙ a .rec-same q h;
 }
 
--- a run may be cut, and goes on by one step
-pub run-front : {k : ℕ} {S : ℕ → Shared} {end : ℕ} (j : ℕ) → j ≤ end → Run k S end → Run k S j
-run-front j h R = record { step = λ i g. R .step i (omega arith) }
-
+-- a run goes on by one step
 pub run-more : {k : ℕ} {S : ℕ → Shared} {end : ℕ} → Run k S end → Step k (S end) (S (suc end)) → Run k S (suc end)
 run-more {k} {S} {end} R c = record { step = λ i h. go i h (ℕ-discrete i end) }
   where

@@ -114,6 +114,23 @@ module _ {k : ℕ} {S : ℕ → Shared} {end : ℕ} (hk : 2 ≤ k) (R : Run k S 
             (e ∙ f .last .holds .kids _ (route-slot k _ (omega arith) x));
       }
 
+  -- a node that was on a path is in use for ever, and its tag and keys at j are those it had then
+  module _ (i j x n : ℕ) (hj : j ≤ end) (c : Moment i j (λ m. On k (S m .view) x n)) where
+    since : Grown (S (c .when)) (S j)
+    since = grown-at hk R I₀ (c .when) j (c .to) hj
+
+    used-then : In (S (c .when) .nodes) n
+    used-then = reach-used (omega arith) (sound-at hk R I₀ (c .when) (omega (arith, c .to)) .inv .shape) (on-reach k (omega arith) (c .holds))
+
+    pub was-used : In (S j .nodes) n
+    was-used = omega (arith, used-then, since .nodes-more)
+
+    tag-then : S j .view .tag n ≡ S (c .when) .view .tag n
+    tag-then = since .tag-same n used-then
+
+    keys-then : keys (S j .view) n ≡ keys (S (c .when) .view) n
+    keys-then = keys-same (S (c .when) .view) (S j .view) n tag-then (since .key-same n used-then)
+
   -- a leaf so read tells whether x was in the set at a moment from i to j
   pub read-has : (i j x l : ℕ) → i ≤ j → j ≤ end → Moment i j (λ m. On k (S m .view) x l) → S j .view .tag l ≢ k
       → List·Memᴰ x (keys (S j .view) l) → Moment i j (λ m. Holds k (S m .view) x)
@@ -124,16 +141,10 @@ module _ {k : ℕ} {S : ℕ → Shared} {end : ℕ} (hk : 2 ≤ k) (R : Run k S 
     holds = record {
       node = l;
       reached = on-reach k (omega arith) (c .holds);
-      leaf = rw (g .tag-same l hl) at leaf;
-      has = rw (keys-same (S (c .when) .view) (S j .view) l (g .tag-same l hl) (g .key-same l hl)) at has;
+      leaf = rw (tag-then i j x l hj c) at leaf;
+      has = rw (keys-then i j x l hj c) at has;
     };
   }
-    where
-      g : Grown (S (c .when)) (S j)
-      g = grown-at hk R I₀ (c .when) j (c .to) hj
-
-      hl : In (S (c .when) .nodes) l
-      hl = reach-used (omega arith) (sound-at hk R I₀ (c .when) (omega (arith, c .to)) .inv .shape) (on-reach k (omega arith) (c .holds))
 
   pub read-lacks : (i j x l : ℕ) → i ≤ j → j ≤ end → Moment i j (λ m. On k (S m .view) x l) → S j .view .tag l ≢ k
       → ¬ List·Memᴰ x (keys (S j .view) l) → Moment i j (λ m. ¬ Holds k (S m .view) x)
@@ -143,30 +154,11 @@ module _ {k : ℕ} {S : ℕ → Shared} {end : ℕ} (hk : 2 ≤ k) (R : Run k S 
     to = c .to;
     holds =
         λ a. lacks (rw (
-          keys-same (S (c .when) .view) (S j .view) l (g .tag-same l hl) (g .key-same l hl),
+          keys-then i j x l hj c,
           ← one-place
-              (sound-at hk R I₀ (c .when) (omega (arith, c .to)) .inv) a (c .holds) (rw (g .tag-same l hl) at leaf),
+              (sound-at hk R I₀ (c .when) (omega (arith, c .to)) .inv) a (c .holds) (rw (tag-then i j x l hj c) at leaf),
         ) (a .has));
   }
-    where
-      g : Grown (S (c .when)) (S j)
-      g = grown-at hk R I₀ (c .when) j (c .to) hj
-
-      hl : In (S (c .when) .nodes) l
-      hl = reach-used (omega arith) (sound-at hk R I₀ (c .when) (omega (arith, c .to)) .inv .shape) (on-reach k (omega arith) (c .holds))
-
-  -- a node that was on a path is in use for ever
-  pub was-used : (i j x n : ℕ) → j ≤ end → Moment i j (λ m. On k (S m .view) x n) → In (S j .nodes) n
-  was-used i j x n hj c =
-      let h =
-      reach-used (omega arith) (sound-at hk R I₀ (c .when) (omega (arith, c .to)) .inv .shape) (on-reach k (omega arith) (c .holds)) in
-      omega (arith, h .low, h .high, grown-at hk R I₀ (c .when) j (c .to) hj .nodes-more)
-
-  -- the tag at j of a node that was on a path is the one it had then
-  tag-then : (i j x n : ℕ) → j ≤ end → (c : Moment i j (λ m. On k (S m .view) x n)) → S j .view .tag n ≡ S (c .when) .view .tag n
-  tag-then i j x n hj c =
-      grown-at hk R I₀ (c .when) j (c .to) hj .tag-same n
-      (reach-used (omega arith) (sound-at hk R I₀ (c .when) (omega (arith, c .to)) .inv .shape) (on-reach k (omega arith) (c .holds)))
 
   -- an internal node that was on the path of x and is not marked is on it
   pub was-on : (i j x n : ℕ) → j ≤ end → Moment i j (λ m. On k (S m .view) x n) → S j .view .tag n ≡ k

@@ -5,21 +5,22 @@ use mathlib.Core.List.{[], List·Memᴰ, List·Memᴰ·head, List·Memᴰ·not-n
 use Prim.Native.Nat.{ℕ, _≤_}
 use native.Mathlib.Decide.{ℕ-discrete}
 use native.Mathlib.Omega.{arith}
-use Rattle.history.specs.View.{View, In, route, keys, keys-from, On, Reach, by, Holds, Ordered}
+use Rattle.tables.specs.Choice.{listed}
+use Rattle.history.specs.View.{View, In, route, keys, On, Reach, by, Holds, Ordered}
 use Rattle.history.specs.Shared.{Desc, Shared}
 use Rattle.history.specs.Change.{SwapChild, SwapPend, Change, draw-replace, draw-prune, swap-replace, unflag-replace, mark}
 use Rattle.history.specs.Change.{swap-prune, unflag-prune}
 use Rattle.history.specs.Effects.{SameSet, Removed, SetMoves, adds, removes, swaps}
 use Rattle.history.specs.Run.{Step, changes, rests, step-swaps}
 use Rattle.history.proofs.Route.{route-slot}
-use Rattle.history.proofs.Paths.{keys-same, on-reach, leaf-one, same-reach, same-reach-back}
-use Rattle.history.proofs.Replaced.{Brings, Replace, brought, stayed, after}
-use Rattle.history.proofs.Pruned.{Prune, Spared, prune-left, prune-kept}
+use Rattle.history.proofs.Paths.{keys-same, leaf-one, same-reach, same-reach-back}
+use Rattle.history.proofs.Replaced.{Brings, brought, stayed, after}
+use Rattle.history.proofs.Pruned.{Spared, prune-left, prune-kept}
 use Rattle.history.proofs.Brings.{Effect, puts, takes}
 use Rattle.history.proofs.Invariant.{Inv, Sound, Waits, Marked}
 use Rattle.history.proofs.Touch.{reach-used}
 use Rattle.history.proofs.Standing.{waiting, standing}
-use Rattle.history.proofs.SwapReplace.{replace-of, eff, l-on}
+use Rattle.history.proofs.SwapReplace.{replace-of, eff, l-in, l-on}
 use Rattle.history.proofs.SwapPrune.{written, prune-of, p-in}
 
 -- where tags, keys and children of nodes in use are as they were, so is the set
@@ -64,25 +65,19 @@ one-place {k} I h o q = leaf-one k (I .ordered _ _ (h .reached) (h .leaf) (h .ha
 module _ {k u m : ℕ} {T : ℕ → Desc} {t t′ : View} {r i : ℕ} (hk : 2 ≤ k) (I : Inv k u m T t) (h : In m r) (kd : T r .kind ≡ 1)
     (W : Waits k t (T r) r)
     (ii : In k i) (was : t .child (T r .p) i ≡ T r .l) (w : SwapChild k u t t′ (T r .p) i (T r .third)) where
-  swapped : Replace k u t t′ (T r .p) i (T r .l) (T r .third)
-  swapped = replace-of hk I h kd W ii was w
-
-  l-reached : Reach k t (T r .l)
-  l-reached = on-reach k (omega arith) (l-on hk I h kd W ii was w)
-
   -- a key that stood in l, as a key of the set
   in-l : {y : ℕ} → List·Memᴰ y (keys t (T r .l)) → Holds k t y
-  in-l mm = record { node = T r .l; reached = l-reached; leaf = I .good r h .leaf; has = mm }
+  in-l mm = record { node = T r .l; reached = l-in hk I h kd W ii was w; leaf = I .good r h .leaf; has = mm }
 
   stays : {y : ℕ} → (List·Memᴰ y (keys t (T r .l)) → Brings k t (T r .third) y) → Holds k t y → Holds k t′ y
   stays {y} f a = go (ℕ-discrete (a .node) (T r .l))
     where
       go : Dec (a .node ≡ T r .l) → Holds k t′ y
-      go (yes e) = brought k (omega arith) swapped (f (rw e at (a .has)))
-      go (no e) = stayed k (omega arith) swapped a e
+      go (yes e) = brought k (omega arith) (replace-of hk I h kd W ii was w) (f (rw e at (a .has)))
+      go (no e) = stayed k (omega arith) (replace-of hk I h kd W ii was w) a e
 
   came-from : {y : ℕ} → (Brings k t (T r .third) y → Holds k t y) → Holds k t′ y → Holds k t y
-  came-from {y} f a = go (after k (omega arith) swapped (I .uniq) a)
+  came-from {y} f a = go (after k (omega arith) (replace-of hk I h kd W ii was w) (I .uniq) a)
     where
       go : ((b : Holds k t y) × (b .node ≢ T r .l)) ⊎ Brings k t (T r .third) y → Holds k t y
       go (inl b) = b .0
@@ -91,14 +86,11 @@ module _ {k u m : ℕ} {T : ℕ → Desc} {t t′ : View} {r i : ℕ} (hk : 2 �
   pub replace-set : SetMoves k t t′ (T r)
   replace-set = go (eff hk I h kd W ii was w)
     where
-      on-l : On k t (T r .key) (T r .l)
-      on-l = l-on hk I h kd W ii was w
-
       go : Effect k t (T r) → SetMoves k t t′ (T r)
       go (puts op no₁ only all new) = adds op (
           record {
-            absent = λ a. no₁ (rw (one-place I a on-l (I .good r h .leaf)) at (a .has));
-            present = brought k (omega arith) swapped new;
+            absent = λ a. no₁ (rw (one-place I a (l-on hk I h kd W ii was w) (I .good r h .leaf)) at (a .has));
+            present = brought k (omega arith) (replace-of hk I h kd W ii was w) new;
             others = λ y d. (stays (all y), came-from (λ b. old y d (only y b)));
           }
           )
@@ -109,51 +101,45 @@ module _ {k u m : ℕ} {T : ℕ → Desc} {t t′ : View} {r i : ℕ} (hk : 2 �
       go (takes op mm only all) = removes op (
           record {
             present = in-l mm;
-            absent = λ a. gone (after k (omega arith) swapped (I .uniq) a);
-            others = λ y d. (stays (λ b. all y b d), came-from (λ b. in-l ((only y b) .0)));
+            absent = λ a. gone (after k (omega arith) (replace-of hk I h kd W ii was w) (I .uniq) a);
+            others = λ y d. (came-from (λ b. in-l ((only y b) .0)), stays (λ b. all y b d));
           }
           )
         where
           gone : ((b : Holds k t (T r .key)) × (b .node ≢ T r .l)) ⊎ Brings k t (T r .third) (T r .key) → ⊥
-          gone (inl b) = b .1 (one-place I (b .0) on-l (I .good r h .leaf))
+          gone (inl b) = b .1 (one-place I (b .0) (l-on hk I h kd W ii was w) (I .good r h .leaf))
           gone (inr b) = (only (T r .key) b) .1 refl
 
 -- an empty leaf holds nothing
 pub empty-row : (t : View) (n : ℕ) {y : ℕ} → t .tag n ≡ 0 → List·Memᴰ y (keys t n) → ⊥
-unfolding keys keys-from
+unfolding keys listed
 empty-row t n {y} e mm = List·Memᴰ·not-nil (none-of e mm)
   where
-    none-of : t .tag n ≡ 0 → List·Memᴰ y (keys-from (t .key n) (t .tag n) 1) → List·Memᴰ y []
+    none-of : t .tag n ≡ 0 → List·Memᴰ y (listed (t .key n) 1 (t .tag n)) → List·Memᴰ y []
     none-of a b = rw a at b
 
 module _ {k u m : ℕ} {T : ℕ → Desc} {t t′ : View} {r i : ℕ} (hk : 2 ≤ k) (I : Inv k u m T t) (h : In m r) (kd : T r .kind ≡ 2)
     (M : Marked k t (T r) r)
     (ii : In k i) (was : t .child (T r .third) i ≡ T r .p) (w : SwapChild k u t t′ (T r .third) i (M .fine .other)) where
-  cut : Prune k u t t′ (T r .third) i (T r .p) (M .fine .other) (M .fine .place)
-  cut = prune-of hk I h kd M ii was w
-
-  reached-p : Reach k t (T r .p)
-  reached-p = p-in hk I h kd M ii was w
-
   l-holds : Holds k t (T r .key)
   l-holds = record {
     node = T r .l;
     reached =
-        by (route k (t .key (T r .p)) (T r .key)) reached-p (I .good r h .inner) (route-slot k _ (omega arith) (T r .key))
+        by (route k (t .key (T r .p)) (T r .key)) (p-in hk I h kd M ii was w) (I .good r h .inner) (route-slot k _ (omega arith) (T r .key))
         (sym (M .fine .l-at));
     leaf = I .good r h .leaf;
     has = rw (I .good r h .prune kd .alone) (List·Memᴰ·head refl);
   }
 
-  pub prune-set : Removed k t t′ (T r .key)
+  pub prune-set : Removed (Holds k t) (Holds k t′) (T r .key)
   unfolding Ordered l-holds
   prune-set = record {
     present = l-holds;
-    absent = λ a. gone (prune-left k (omega arith) cut (I .uniq) a);
+    absent = λ a. gone (prune-left k (omega arith) (prune-of hk I h kd M ii was w) (I .uniq) a);
     others =
         λ y d. (
-          λ a. prune-kept k (omega arith) cut (I .uniq) (I .ordered) a (safe y d a),
-          λ a. (prune-left k (omega arith) cut (I .uniq) a) .0,
+          λ a. (prune-left k (omega arith) (prune-of hk I h kd M ii was w) (I .uniq) a) .0,
+          λ a. prune-kept k (omega arith) (prune-of hk I h kd M ii was w) (I .uniq) (I .ordered) a (safe y d a),
         );
   }
     where

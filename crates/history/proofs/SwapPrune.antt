@@ -12,7 +12,8 @@ use Rattle.history.proofs.Paths.{here?, on-reach}
 use Rattle.history.proofs.Pruned.{Prune, Fate, stays, was-p, dropped as lost, fate, prune-back, spared, prune-uniq, prune-ordered}
 use Rattle.history.proofs.Pruned.{dropped-leaf}
 use Rattle.history.proofs.Invariant.{Good, GoodPrune, is-gp, Marked, Finished, finished, Inv}
-use Rattle.history.proofs.Touch.{Touch, Between, reach-used, keep-pair, p-used, gp-used}
+use Rattle.history.proofs.Replaced.{Between}
+use Rattle.history.proofs.Touch.{Touch, reach-used, keep-pair, p-used, gp-used}
 use Rattle.history.proofs.Static.{shape-child}
 use Rattle.history.proofs.Assemble.{named-born, assemble-same}
 use Rattle.history.proofs.SwapReplace.{at-first}
@@ -105,8 +106,8 @@ module _ {k u m : ℕ} {T : ℕ → Desc} {t t′ : View} {r i : ℕ} (hk : 2 �
     back = λ o. inl (prune-back k one prune-of o);
     nobody = nob;
     born = λ q hq kq v e. named-born one I q r (T r .third) hq h (is-gp kd refl) kq v (omega arith);
-    apart = λ q n hq kq d nw b. omega (arith, b .from, b .to);
-    named = λ q n hq nm b. omega (arith, b .from, b .to);
+    apart = λ q n hq kq d nw b. omega (arith, b .low, b .high);
+    named = λ q n hq nm b. omega (arith, b .low, b .high);
   }
     where
       pnd : t′ .pend (T r .third) ≡ 4 * r + 2

@@ -4,7 +4,8 @@ use mathlib.Core.Logic.{_≢_, _⊎_, inl, inr}
 use mathlib.Core.List.{List·Memᴰ}
 use Prim.Native.Nat.{ℕ, _+_, _*_, _≤_, _<_}
 use native.Mathlib.Omega.{arith}
-use Rattle.history.specs.View.{View, In, infinity, route, keys, On, Reach, by, Ordered}
+use Rattle.tables.specs.Numbers.{infinity}
+use Rattle.history.specs.View.{View, In, route, keys, On, Reach, by, Ordered}
 use Rattle.history.specs.Shared.{Desc, NoChild}
 use Rattle.history.specs.Change.{SwapChild}
 use Rattle.history.proofs.Route.{tri, route-slot, route-first}
@@ -12,7 +13,7 @@ use Rattle.history.proofs.Paths.{here?, on-down, on-reach}
 use Rattle.history.proofs.Replaced.{span, NewOf, Brings, Replace, new-of, replace-on, replace-reach, replace-got, replace-uniq}
 use Rattle.history.proofs.Replaced.{replace-ordered, l-gone}
 use Rattle.history.proofs.Invariant.{Good, GoodReplace, is-p, Waits, Over, over, Inv}
-use Rattle.history.proofs.Touch.{Touch, Between, reach-used, p-used}
+use Rattle.history.proofs.Touch.{Touch, reach-used, p-used}
 use Rattle.history.proofs.Brings.{Effect, puts, takes, effect, kid-route, kid-leaf}
 use Rattle.history.proofs.Static.{shape-child}
 use Rattle.history.proofs.Assemble.{named-born, assemble-same}
@@ -39,7 +40,7 @@ module _ {k u m : ℕ} {T : ℕ → Desc} {t t′ : View} {r i : ℕ} (hk : 2 �
   p-in : Reach k t (T r .p)
   p-in = on-reach k one (W .on)
 
-  l-in : Reach k t (T r .l)
+  pub l-in : Reach k t (T r .l)
   l-in = by i p-in (g .inner) ii (sym was)
 
   -- the word swapped is the one where a search for the key looks
@@ -86,22 +87,17 @@ module _ {k u m : ℕ} {T : ℕ → Desc} {t t′ : View} {r i : ℕ} (hk : 2 �
     no-prune = λ b q d z. omega (arith, W .flag);
     no-mark = λ b q z. omega (arith, W .flag);
     on = λ o q d. replace-on k one replace-of o (λ z. g .leaf (rw z at q));
-    back = λ o. bk (new-of k (replace-got k one replace-of o));
+    back = λ o. new-of k (replace-got k one replace-of o);
     nobody = nob;
     born = λ q hq kq v e. named-born one I q r (T r .p) hq h (is-p refl) kq v (omega arith);
     apart = ap₁;
-    named = λ q n hq nm b. named-born one I r q n h hq nm kd W (record { low = b .from; high = b .to });
+    named = λ q n hq nm b. named-born one I r q n h hq nm kd W b;
   }
     where
       pnd : t′ .pend (T r .p) ≡ 4 * r + 1
       pnd = w .pend-same (T r .p) hp ∙ W .flag
 
-      bk : {n : ℕ} → Reach k t n ⊎ NewOf k t (T r .third) n
-          → Reach k t n ⊎ Between (T r .third) (T r .third + span k (t .tag (T r .third))) n
-      bk (inl o) = inl o
-      bk (inr b) = inr (record { from = b .low; to = b .high })
-
-      nob : (b n : ℕ) → In u b → (Reach k t n → ⊥) → (Between (T r .third) (T r .third + span k (t .tag (T r .third))) n → ⊥)
+      nob : (b n : ℕ) → In u b → (Reach k t n → ⊥) → (NewOf k t (T r .third) n → ⊥)
           → NoChild k t b n → NoChild k t′ b n
       nob b n hb gone out no₁ j s e = go (here? b (T r .p) j i)
         where
@@ -109,13 +105,12 @@ module _ {k u m : ℕ} {T : ℕ → Desc} {t t′ : View} {r i : ℕ} (hk : 2 �
           go (yes z) = let y : T r .third ≡ n = cc (w .child-new) in out (omega arith)
           go (no z) = no₁ j s (sym (w .child-same b j hb s z) ∙ e)
 
-      ap₁ : (q n : ℕ) → In m q → T q .kind ≡ 1 → q ≢ r → NewOf k t (T q .third) n
-          → Between (T r .third) (T r .third + span k (t .tag (T r .third))) n → ⊥
+      ap₁ : (q n : ℕ) → In m q → T q .kind ≡ 1 → q ≢ r → NewOf k t (T q .third) n → NewOf k t (T r .third) n → ⊥
       ap₁ q n hq kq d nw b = far (tri q r)
         where
           far : (q < r) ⊎ ((r < q) ⊎ (q ≡ r)) → ⊥
-          far (inl y) = omega (arith, I .apart q r hq h kq kd y, nw .high, b .from)
-          far (inr (inl y)) = omega (arith, I .apart r q h hq kd kq y, nw .low, b .to)
+          far (inl y) = omega (arith, I .apart q r hq h kq kd y, nw .high, b .low)
+          far (inr (inl y)) = omega (arith, I .apart r q h hq kd kq y, nw .low, b .high)
           far (inr (inr y)) = d y
 
   pub swap-replace-over : Over k t′ (T r)

@@ -4,20 +4,15 @@ use mathlib.Core.Logic.{_≢_, _⊎_, inl, inr}
 use Prim.Native.Nat.{ℕ, _+_, _*_, _≤_}
 use native.Mathlib.Decide.{ℕ-discrete}
 use native.Mathlib.Omega.{arith}
-use Rattle.history.specs.View.{View, In, route, On, Reach, top, by}
+use Rattle.history.specs.View.{View, In, route, On, Below, top, by, Reach}
 use Rattle.history.specs.Shared.{Desc, NoChild, Pair}
 use Rattle.history.specs.Change.{rank}
 use Rattle.history.proofs.Route.{route-slot}
-use Rattle.history.proofs.Replaced.{NewOf}
+use Rattle.history.proofs.Replaced.{Between, NewOf}
 use Rattle.history.proofs.Invariant.{Shape, Names, is-l, is-p, Waits, Over, Held, Asks, Marked, Finished, Dropped, Status, waits}
 use Rattle.history.proofs.Invariant.{over, asks, stands-marked, finished, dropped, Inv}
 
--- numbers that a change may bring into the tree: none where high is 0
-pub record Between (low high n : ℕ) : Type 0 where
-  pub from : low ≤ n
-  pub to : n ≤ high
-
--- where nothing is touched, x is a number not in use
+-- where nothing is touched, x is a number not in use; low to high are the numbers that a change may bring into the tree
 pub record Touch (k u m : ℕ) (T : ℕ → Desc) (t t′ : View) (x r low high : ℕ) : Type 0 where
   pub tag-same : (n : ℕ) → In u n → t′ .tag n ≡ t .tag n
   pub key-same : (n : ℕ) → In u n → t′ .key n ≡ t .key n
@@ -40,15 +35,16 @@ pub record Touch (k u m : ℕ) (T : ℕ → Desc) (t t′ : View) (x r low high 
   pub apart : (q n : ℕ) → In m q → T q .kind ≡ 1 → q ≢ r → NewOf k t (T q .third) n → Between low high n → ⊥
   pub named : (q n : ℕ) → In m q → Names (T q) n → Between low high n → ⊥
 
-pub reach-used : {k u : ℕ} {t : View} {n : ℕ} → 1 ≤ k → Shape k u t → Reach k t n → In u n
-reach-used hk s (top e) = omega (arith, s .room)
-reach-used {k} {u} {t} {n} hk s (by {m = m} j o q i e) = go (reach-used hk s o)
+-- what is below a node in use is in use, and has no smaller number
+pub below-up : {k u : ℕ} {t : View} {a n : ℕ} → Shape k u t → In u a → Below k t a n → In u n × (a ≤ n)
+below-up s h (top e) = (rw e h, omega arith)
+below-up {u = u} {a = a} {n = n} s h (by {m = m} j b q i e) = go (below-up s h b)
   where
-    go : In u m → In u n
-    go h = rw e (omega (arith, s .above m j h q i, s .used m j h q i))
+    go : In u m × (a ≤ m) → In u n × (a ≤ n)
+    go c = rw e (omega (arith, c .0, s .above m j (c .0) q i, s .used m j (c .0) q i), omega (arith, c .1, s .above m j (c .0) q i))
 
-pub new-like : {k : ℕ} {t t′ : View} {new n : ℕ} → t′ .tag new ≡ t .tag new → NewOf k t′ new n → NewOf k t new n
-new-like e h = record { low = h .low; high = rw e at (h .high) }
+pub reach-used : {k u : ℕ} {t : View} {n : ℕ} → 1 ≤ k → Shape k u t → Reach k t n → In u n
+reach-used hk s o = below-up s (omega (arith, s .room)) o .0
 
 pub child-used : {k u : ℕ} {t : View} → Shape k u t → (n j : ℕ) → In u n → t .tag n ≡ k → In k j → In u (t .child n j)
 child-used s n j h q i = omega (arith, s .above n j h q i, s .used n j h q i)
@@ -117,7 +113,7 @@ module _ {k u m : ℕ} {T : ℕ → Desc} {t t′ : View} {x r low high : ℕ} (
         rw (w .key-same (T q .p) hp) (w .child-same (T q .p) (route k (t .key (T q .p)) (T q .key)) hp (route-slot k _ hk (T q .key)) px ∙
         v .at);
     unborn = record {
-      unreached = λ n o a. un n (w .back o) (new-like th a);
+      unreached = λ n o a. un n (w .back o) (rw th at a);
       kids = λ j a s. w .child-same (T q .third) j hn s (w .born q h kd v) ∙ v .unborn .kids j (sym th ∙ a) s;
     };
   }

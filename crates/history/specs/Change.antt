@@ -5,8 +5,9 @@ use mathlib.Core.Logic.{_≢_, _⊎_}
 use mathlib.Core.List.{List, [], _∷_, List·Memᴰ}
 use Prim.Native.Nat.{ℕ, zero, suc, _+_, _*_, _-_, _/_, _%_, _≤_, _<_}
 use lib.ListN.{getD}
-use Rattle.history.specs.View.{View, In, infinity, route, keys, On}
-use Rattle.history.specs.Keys.{put-in, take-out}
+use Rattle.tables.specs.Numbers.{infinity}
+use Rattle.tables.specs.Keys.{putIn, takenOut}
+use Rattle.history.specs.View.{View, In, route, keys, On}
 use Rattle.history.specs.Shared.{Desc, Shared, Done, Failed, Pair}
 
 -- a pending word's age: flags, then clean, then mark of one record; every change of a pending raises it
@@ -74,10 +75,10 @@ pub record Sprout (k : ℕ) (t : View) (n r : ℕ) (ks : List ℕ) : Type 0 wher
 
 -- what a replace of leaf l draws from node n on, and how many nodes that takes
 pub data Drawn (k : ℕ) (t t′ : View) (n r operation x l size : ℕ) : Type 0 where
-  put-leaf : operation ≡ 2 → ¬ List·Memᴰ x (keys t l) → t .tag l + 1 < k → NewLeaf t′ n (put-in x (keys t l)) → size ≡ 1
+  put-leaf : operation ≡ 2 → ¬ List·Memᴰ x (keys t l) → t .tag l + 1 < k → NewLeaf t′ n (putIn x (keys t l)) → size ≡ 1
       → Drawn k t t′ n r operation x l size
-  out-leaf : operation ≡ 3 → List·Memᴰ x (keys t l) → NewLeaf t′ n (take-out x (keys t l)) → size ≡ 1 → Drawn k t t′ n r operation x l size
-  sprout : operation ≡ 2 → ¬ List·Memᴰ x (keys t l) → t .tag l + 1 ≡ k → Sprout k t′ n r (put-in x (keys t l)) → size ≡ k + 1
+  out-leaf : operation ≡ 3 → List·Memᴰ x (keys t l) → NewLeaf t′ n (takenOut x (keys t l)) → size ≡ 1 → Drawn k t t′ n r operation x l size
+  sprout : operation ≡ 2 → ¬ List·Memᴰ x (keys t l) → t .tag l + 1 ≡ k → Sprout k t′ n r (putIn x (keys t l)) → size ≡ k + 1
       → Drawn k t t′ n r operation x l size
 
 module _ (k : ℕ) where

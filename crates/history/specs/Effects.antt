@@ -6,27 +6,25 @@ use Rattle.history.specs.View.{View, In, Holds}
 use Rattle.history.specs.Shared.{Desc, Shared}
 use Rattle.history.specs.Change.{Change, draw-replace, draw-prune, swap-replace, unflag-replace, mark, swap-prune, unflag-prune}
 
+-- of a set and what it becomes, each by what is in it: x was not there and is, and nothing else moved
+pub record Added (was is : ℕ → Type 0) (x : ℕ) : Type 0 where
+  pub absent : ¬ was x
+  pub present : is x
+  pub others : (y : ℕ) → y ≢ x → was y ↔ is y
+
+-- x was there and is not, and nothing else moved: the same, backwards
+abbrev pub Removed : (ℕ → Type 0) → (ℕ → Type 0) → ℕ → Type 0
+Removed was is x = Added is was x
+
 module _ (k : ℕ) where
   -- the set is as it was
   unfoldable pub SameSet : View → View → Type 0
   SameSet t t′ = (y : ℕ) → Holds k t y ↔ Holds k t′ y
 
-  -- x was not in the set and is, and nothing else moved
-  pub record Added (t t′ : View) (x : ℕ) : Type 0 where
-    pub absent : ¬ Holds k t x
-    pub present : Holds k t′ x
-    pub others : (y : ℕ) → y ≢ x → Holds k t y ↔ Holds k t′ y
-
-  -- x was in the set and is not, and nothing else moved
-  pub record Removed (t t′ : View) (x : ℕ) : Type 0 where
-    pub present : Holds k t x
-    pub absent : ¬ Holds k t′ x
-    pub others : (y : ℕ) → y ≢ x → Holds k t y ↔ Holds k t′ y
-
   -- the set is changed by the key of record d: put in by an insert, taken out by a delete
   pub data SetMoves (t t′ : View) (d : Desc) : Type 0 where
-    adds : d .operation ≡ 2 → Added t t′ (d .key) → SetMoves t t′ d
-    removes : d .operation ≡ 3 → Removed t t′ (d .key) → SetMoves t t′ d
+    adds : d .operation ≡ 2 → Added (Holds k t) (Holds k t′) (d .key) → SetMoves t t′ d
+    removes : d .operation ≡ 3 → Removed (Holds k t) (Holds k t′) (d .key) → SetMoves t t′ d
 
   -- the record whose child swap a change is; 0 for the other five
   unfoldable pub swaps : {S S′ : Shared} → Change k S S′ → ℕ

@@ -1,7 +1,8 @@
 -- The fresh tree of Figure 6, by its words.
 use mathlib.Core.Path.{_≡_}
 use Prim.Native.Nat.{ℕ, _+_, _*_, _≤_, _<_}
-use Rattle.history.specs.View.{In, infinity}
+use Rattle.tables.specs.Numbers.{infinity}
+use Rattle.history.specs.View.{In}
 use Rattle.history.specs.Shared.{Shared}
 
 -- node 1 is the root, node 2 the dummy; both hold only infinity. The root's children are 2 and empty leaves 3 to k+1,

@@ -21,9 +21,8 @@ use Rattle.tables.proofs.Places.{place-below}
 use Rattle.process.specs.declared.Process.{Process}
 use Rattle.process.specs.Process.{idle}
 use Rattle.history.specs.View.{In}
-use Rattle.history.specs.View as view
 use Rattle.history.specs.Fresh.{Fresh}
-use Rattle.history.proofs.Within.{within-at}
+use Rattle.history.proofs.Alone.{alone-at}
 use Rattle.history.proofs.Rest.{Rest, rest-sound, fresh-rest}
 use Rattle.link.specs.Tables.{tablesOf}
 use Rattle.link.specs.Events.{Event, State, taken, stateAt, freshState}
@@ -144,15 +143,14 @@ module _ (k processes nodes records : ℕ) (good : numbersGood (kStored k) proce
       image-key (h .k) (h .k) (replicate (h .k - 1) infinity) first 0 i a c ∙ getD-replicate (h .k - 1) (i - 1) infinity 0 (omega arith)
 
   fresh : Fresh (h .k) (tablesOf h B)
-  unfolding view.infinity
   fresh = record {
     nodes = refl;
     no-record = refl;
     root-tag = root-word 0 (omega arith) ∙ image-tag (h .k) (h .k) (replicate (h .k - 1) infinity) 2 0;
     dummy-tag = dummy-word 0 (omega arith) ∙ image-tag (h .k) (h .k) (replicate (h .k - 1) infinity) (h .k + 2) 0;
     leaf-tag = λ n a c. leaf-word n 0 a (omega (arith, lim)) (omega arith);
-    root-keys = λ i a c. within-at (h .k) _ i a c ∙ root-word i (omega arith) ∙ infinite i 2 a c;
-    dummy-keys = λ i a c. within-at (h .k) _ i a c ∙ dummy-word i (omega arith) ∙ infinite i (h .k + 2) a c;
+    root-keys = λ i a c. alone-at (h .k) _ i a c ∙ root-word i (omega arith) ∙ infinite i 2 a c;
+    dummy-keys = λ i a c. alone-at (h .k) _ i a c ∙ dummy-word i (omega arith) ∙ infinite i (h .k + 2) a c;
     root-kids = λ j s. root-word (childPlace (h .k) j) (omega (arith, s)) ∙ image-child (h .k) (h .k) (replicate (h .k - 1) infinity) 2 0 j s refl ∙ omega (arith, s);
     dummy-kids = λ j s. dummy-word (childPlace (h .k) j) (omega (arith, s)) ∙ image-child (h .k) (h .k) (replicate (h .k - 1) infinity) (h .k + 2) 0 j s refl ∙ omega (arith, s);
     clean = λ n s. quiet n s (ℕ-discrete n 1) (ℕ-discrete n 2);

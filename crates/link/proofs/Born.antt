@@ -5,44 +5,50 @@ use mathlib.Core.Bool.{true, false}
 use mathlib.Core.List.{List, [], _∷_, List·Memᴰ}
 use native.Mathlib.Omega.{arith}
 use lib.Dec.{eqb}
-use borrow.Author.Tests.{eq-eqb, ne-eqb}
+use borrow.Author.Tests.{eq-eqb, ne-eqb, ltb-true}
 use lib.ListN.{length, getD, drop}
-use lib.Seq.{getD-drop}
-use Rattle.tables.specs.Choice.{pick}
+use lib.Seq.{getD-drop, ext-getD}
+use Rattle.tables.specs.Choice.{pick, listed}
 use Rattle.tables.specs.Numbers.{nodeWords}
 use Rattle.tables.specs.Layout.{nodeWord, tagWord, childPlace, pendingPlace}
 use Rattle.tables.specs.Node.{leafImage}
-use Rattle.tables.specs.Keys.{keysOf, putIn, takenOut, keyArray}
+use Rattle.tables.specs.Keys.{keysOf, equalAt, putIn, takenOut, keyArray}
 use Rattle.tables.specs.declared.header.Header.{Header}
 use Rattle.tables.proofs.Picks.{pick-true, pick-false}
+use Rattle.tables.proofs.Lists.{length-listed, getD-listed}
+use Rattle.tables.proofs.Keyed.{holds-is}
 use Rattle.draws.specs.declared.Job.{Job}
 use Rattle.draws.specs.Draw.{newNode, newRecord, sprouts, neededNodes, newKeys, newCount, largest, sproutDrawn, nodesDrawn, replaceDrawn}
 use Rattle.draws.proofs.After.{Room, replace-new, leaf-same, sprout-stem, sprout-leaf, stemImage}
-use Rattle.history.specs.View.{In, keys, within}
-use Rattle.history.specs.Keys.{put-in, take-out}
+use Rattle.history.specs.View.{In, keys}
 use Rattle.history.specs.Change.{NewLeaf, Sprout}
-use Rattle.history.proofs.Within.{within-at, keys-within}
-use Rattle.history.proofs.Rows.{put-in-length, keys-length}
+use Rattle.history.proofs.Alone.{alone-at, row-alone}
+use Rattle.history.proofs.Rows.{put-in-length, take-out-length}
+use Rattle.history.proofs.Brings.{keys-count}
 use Rattle.link.specs.Tables.{viewOf}
 use Rattle.link.proofs.Writes.{Fit}
-use Rattle.link.proofs.Keyed.{keys-are, put-are, take-are}
-use Rattle.link.proofs.Images.{image-tag, image-key, image-child, image-pend, array-at, row-from, take-out-shorter}
+use Rattle.link.proofs.Keyed.{keys-are, mem-holds}
+use Rattle.link.proofs.Images.{image-tag, image-key, image-child, image-pend, array-at}
 use Rattle.link.proofs.Draws.{drawnHeader}
+
+-- a key that is there is taken out once
+take-out-shorter : (x : ℕ) (ks : List ℕ) → List·Memᴰ x ks → suc (length (takenOut x ks)) ≡ length ks
+take-out-shorter x ks m = omega (arith, take-out-length x ks, ltb-true (equalAt x ks) (length ks) (holds-is x ks ∙ mem-holds x ks m))
 
 -- a node whose words are those of a row of keys, and whose pending is 0
 leaf-by : (h : Header) (b : List ℕ) (n : ℕ) (ks : List ℕ) → length ks < h .k → tagWord b h n ≡ length ks
     → ((i : ℕ) → 1 ≤ i → i < h .k → i ≤ length ks → nodeWord b h n i ≡ getD ks (i - 1) 0) → nodeWord b h n (pendingPlace (h .k)) ≡ 0 → NewLeaf (viewOf h b) n ks
 unfolding keys
 leaf-by h b n ks l t f z = record {
-  row =
-      rw t
-      (keys-within (h .k) (λ i. nodeWord b h n i) (length ks) l
-      ∙ row-from (λ i. nodeWord b h n i) ks 1 (λ a g. f (1 + a) (omega arith) (omega arith) (omega arith) ∙ ap (λ (m : ℕ). getD ks m 0) (back a)));
+  row = rw t (row-alone (h .k) (λ i. nodeWord b h n i) (length ks) l ∙ ext-getD 0 _ ks (length-listed _ 1 (length ks)) (λ a g. word a (rw length-listed at g)));
   clean = z;
 }
   where
     back : (a : ℕ) → 1 + a - 1 ≡ a
     back a = omega arith
+
+    word : (a : ℕ) → a < length ks → getD (listed (λ i. nodeWord b h n i) 1 (length ks)) a 0 ≡ getD ks a 0
+    word a g = getD-listed _ 1 (length ks) a 0 g ∙ f (1 + a) (omega arith) (omega arith) (omega arith) ∙ ap (λ (m : ℕ). getD ks m 0) (back a)
 
 module _ {h : Header} {b : List ℕ} (fit : Fit h b) (j : Job) where
   abbrev count : ℕ
@@ -63,23 +69,19 @@ module _ {h : Header} {b : List ℕ} (fit : Fit h b) (j : Job) where
     new-word n o l g p = replace-new b h j count room (i .low) (i .high) n o l (record { from-one = omega arith; to-last = g; within = p })
 
     -- the new keys, key by key
-    put-at : j .operation ≡ 2 → (m : ℕ) → m < 8 → getD (newKeys b h j count) m 0 ≡ getD (put-in (j .key) (keys (viewOf h b) (j .l))) m 0
+    put-at : j .operation ≡ 2 → (m : ℕ) → m < 8 → getD (newKeys b h j count) m 0 ≡ getD (putIn (j .key) (keys (viewOf h b) (j .l))) m 0
     unfolding pick
     put-at e m l =
         ap (λ (x : List ℕ). getD x m 0) (pick-true (eqb (j .operation) 2) _ _ (eq-eqb (j .operation) 2 e))
         ∙ array-at (putIn (j .key) (keysOf b h (j .l) count)) m l
-        ∙ ap (λ (x : List ℕ). getD x m 0) (put-are (j .key) _ ∙ ap (put-in (j .key)) (keys-are b h (j .l) leaf))
+        ∙ ap (λ (ks : List ℕ). getD (putIn (j .key) ks) m 0) (keys-are b h (j .l) leaf)
 
-    take-at : j .operation ≡ 3 → (m : ℕ) → m < 8 → getD (newKeys b h j count) m 0 ≡ getD (take-out (j .key) (keys (viewOf h b) (j .l))) m 0
+    take-at : j .operation ≡ 3 → (m : ℕ) → m < 8 → getD (newKeys b h j count) m 0 ≡ getD (takenOut (j .key) (keys (viewOf h b) (j .l))) m 0
     unfolding pick
     take-at e m l =
         ap (λ (x : List ℕ). getD x m 0) (pick-false (eqb (j .operation) 2) _ _ (ne-eqb (j .operation) 2 (λ z. omega arith)))
         ∙ array-at (takenOut (j .key) (keysOf b h (j .l) count)) m l
-        ∙ ap (λ (x : List ℕ). getD x m 0) (take-are (j .key) _ ∙ ap (take-out (j .key)) (keys-are b h (j .l) leaf))
-
-    row-length : length (keys (viewOf h b) (j .l)) ≡ count
-    unfolding keys
-    row-length = keys-length _ count 1
+        ∙ ap (λ (ks : List ℕ). getD (takenOut (j .key) ks) m 0) (keys-are b h (j .l) leaf)
 
     -- one leaf
     module _ (one : sprouts h (j .operation) count ≡ false) where
@@ -99,18 +101,18 @@ module _ {h : Header} {b : List ℕ} (fit : Fit h b) (j : Job) where
           (λ m a g p. leaf-word m (omega arith) ∙ image-key (h .k) (newCount (j .operation) count) (newKeys b h j count) 0 0 m a g ∙ f (m - 1) (omega (arith, k-limits)))
           (leaf-word (pendingPlace (h .k)) (omega arith) ∙ image-pend (h .k) (newCount (j .operation) count) (newKeys b h j count) 0 0 (omega (arith, k-limits)))
 
-      pub born-put : j .operation ≡ 2 → count + 1 < h .k → NewLeaf (viewOf (drawnHeader h needs) after) (h .nodesused + 1) (put-in (j .key) (keys (viewOf h b) (j .l)))
+      pub born-put : j .operation ≡ 2 → count + 1 < h .k → NewLeaf (viewOf (drawnHeader h needs) after) (h .nodesused + 1) (putIn (j .key) (keys (viewOf h b) (j .l)))
       unfolding pick
       born-put e g =
-          let n : length (put-in (j .key) (keys (viewOf h b) (j .l))) ≡ suc count = put-in-length (j .key) _ ∙ ap suc row-length in
+          let n : length (putIn (j .key) (keys (viewOf h b) (j .l))) ≡ suc count = put-in-length (j .key) _ ∙ ap suc (keys-count (viewOf h b) (j .l)) in
           let c : newCount (j .operation) count ≡ count + 1 = pick-true (eqb (j .operation) 2) _ _ (eq-eqb (j .operation) 2 e) in
           made _ (omega arith) (omega arith) (put-at e)
 
       pub born-take : j .operation ≡ 3 → List·Memᴰ (j .key) (keys (viewOf h b) (j .l))
-          → NewLeaf (viewOf (drawnHeader h needs) after) (h .nodesused + 1) (take-out (j .key) (keys (viewOf h b) (j .l)))
+          → NewLeaf (viewOf (drawnHeader h needs) after) (h .nodesused + 1) (takenOut (j .key) (keys (viewOf h b) (j .l)))
       unfolding pick
       born-take e m =
-          let n : suc (length (take-out (j .key) (keys (viewOf h b) (j .l)))) ≡ count = take-out-shorter (j .key) _ m ∙ row-length in
+          let n : suc (length (takenOut (j .key) (keys (viewOf h b) (j .l)))) ≡ count = take-out-shorter (j .key) _ m ∙ keys-count (viewOf h b) (j .l) in
           let c : newCount (j .operation) count ≡ count - 1 = pick-false (eqb (j .operation) 2) _ _ (ne-eqb (j .operation) 2 (λ z. omega arith)) in
           made _ (omega arith) (omega arith) (take-at e)
 
@@ -138,15 +140,15 @@ module _ {h : Header} {b : List ℕ} (fit : Fit h b) (j : Job) where
           (drawn (newNode h + 1 + (m - 1)) o (omega arith) (omega (arith, s)) l
           ∙ sprout-leaf b h (newKeys b h j count) fits (fit .long) o l (m - 1) (omega (arith, s)) (omega (arith, k-limits)))
 
-      pub born-sprout : j .operation ≡ 2 → Sprout (h .k) (viewOf (drawnHeader h needs) after) (h .nodesused + 1) (newRecord h) (put-in (j .key) (keys (viewOf h b) (j .l)))
+      pub born-sprout : j .operation ≡ 2 → Sprout (h .k) (viewOf (drawnHeader h needs) after) (h .nodesused + 1) (newRecord h) (putIn (j .key) (keys (viewOf h b) (j .l)))
       born-sprout e = record {
         inner = stem 0 (omega arith) ∙ image-tag (h .k) (h .k) (largest (newKeys b h j count)) (newNode h + 1) (4 * newRecord h);
-        largest = λ m a g. within-at (h .k) _ m a g ∙ stem m (omega arith) ∙ image-key (h .k) (h .k) (largest (newKeys b h j count)) (newNode h + 1) (4 * newRecord h) m a g ∙ array-at (drop 1 (newKeys b h j count)) (m - 1) (omega (arith, k-limits))
+        largest = λ m a g. alone-at (h .k) _ m a g ∙ stem m (omega arith) ∙ image-key (h .k) (h .k) (largest (newKeys b h j count)) (newNode h + 1) (4 * newRecord h) m a g ∙ array-at (drop 1 (newKeys b h j count)) (m - 1) (omega (arith, k-limits))
             ∙ getD-drop 1 (newKeys b h j count) (m - 1) 0 ∙ ap (λ (x : ℕ). getD (newKeys b h j count) x 0) (on m a) ∙ put-at e m (omega (arith, k-limits));
         kids = λ m s. stem (childPlace (h .k) m) (omega (arith, s)) ∙ image-child (h .k) (h .k) (largest (newKeys b h j count)) (newNode h + 1) (4 * newRecord h) m s refl ∙ omega (arith, s);
         clean = stem (pendingPlace (h .k)) (omega arith) ∙ image-pend (h .k) (h .k) (largest (newKeys b h j count)) (newNode h + 1) (4 * newRecord h) (omega (arith, k-limits));
         leaf-tag = λ m s. leaf-of m 0 s (omega arith) ∙ image-tag (h .k) 1 (keyArray (getD (newKeys b h j count) (m - 1) 0 ∷ [])) 0 0;
-        leaf-key = λ m s. within-at (h .k) _ 1 (omega arith) (omega (arith, k-limits)) ∙ leaf-of m 1 s (omega (arith, k-limits))
+        leaf-key = λ m s. alone-at (h .k) _ 1 (omega arith) (omega (arith, k-limits)) ∙ leaf-of m 1 s (omega (arith, k-limits))
             ∙ image-key (h .k) 1 (keyArray (getD (newKeys b h j count) (m - 1) 0 ∷ [])) 0 0 1 (omega arith) (omega (arith, k-limits)) ∙ array-at (getD (newKeys b h j count) (m - 1) 0 ∷ []) 0 (omega arith) ∙ put-at e (m - 1) (omega (arith, s, k-limits));
         leaf-clean = λ m s. leaf-of m (pendingPlace (h .k)) s (omega arith) ∙ image-pend (h .k) 1 (keyArray (getD (newKeys b h j count) (m - 1) 0 ∷ [])) 0 0 (omega (arith, k-limits));
       }

@@ -1,11 +1,9 @@
 -- From one moment to the next: what all share, what other processes know, what the one that moved knows.
-use Prim.Native.Nat.{ℕ, zero, suc, _-_, _≤_, _<_}
-use mathlib.Core.Path.{_≡_, refl, sym, ap, subst}
+use Prim.Native.Nat.{ℕ, zero, suc, _≤_}
+use mathlib.Core.Path.{_≡_, sym, ap, subst}
 use mathlib.Core.Logic.{_≢_, _⊎_, inl, inr}
-use mathlib.Core.Bool.{Bool}
 use mathlib.Core.List.{List}
 use native.Mathlib.Omega.{arith}
-use Rattle.tables.specs.Layout.{recordWord, processField}
 use Rattle.tables.specs.declared.header.Header.{Header}
 use Rattle.process.specs.declared.Process.{Process}
 use Rattle.process.specs.declared.Stepped.{Stepped}
@@ -13,48 +11,14 @@ use Rattle.process.specs.Process.{idle, withSteps}
 use Rattle.process.specs.Answer.{stepsUp}
 use Rattle.history.specs.View.{In}
 use Rattle.history.specs.Shared.{Shared}
-use Rattle.history.specs.Run.{Step, Run}
+use Rattle.history.specs.Run.{Run}
 use Rattle.history.proofs.Invariant.{Sound}
 use Rattle.history.proofs.Lasting.{grown}
 use Rattle.history.proofs.Runs.{run-more}
 use Rattle.history.proofs.Knows.{Mind, KnowsAt, Serves, stays-at}
-use Rattle.link.specs.Tables.{tablesOf, stackOf}
-use Rattle.link.proofs.Writes.{Fit}
+use Rattle.link.specs.Tables.{stackOf}
 use Rattle.link.proofs.Minds.{mindWith, mindOf, HeldBy, CountersBy, held-more}
-use Rattle.link.proofs.Moments.{tables, Now, Busy, Follows, already, afterwards, answers, Turn, k-low, now-sound, same-self}
-
--- what a turn is for all processes
-pub record Shift (hs : ℕ → Header) (bs : ℕ → List ℕ) (j n : ℕ) (h′ : Header) (b′ : List ℕ) : Type 0 where
-  pub fit′ : Fit h′ b′
-  pub k-same : h′ .k ≡ hs j .k
-  pub processes-same : h′ .processes ≡ hs j .processes
-  pub step : Step (hs j .k) (tables hs bs j) (tablesOf h′ b′)
-  pub stacks : (m : ℕ) → In (hs j .processes) m → m ≢ n → stackOf h′ b′ m ≡ stackOf (hs j) (bs j) m
-  pub owners′ : (r : ℕ) → In (h′ .recordsused) r → In (h′ .processes) (recordWord b′ h′ r processField)
-  pub drawn-by : (r : ℕ) → hs j .recordsused < r → r ≤ h′ .recordsused → recordWord b′ h′ r processField ≡ n
-
-pub turn-shift : {hs : ℕ → Header} {bs : ℕ → List ℕ} {i j n : ℕ} {q : Process} {sound : Bool} {stepped : Stepped} {b′ : List ℕ} (t : Turn hs bs i j n q sound stepped b′)
-    → Shift hs bs j n (t .h′) b′
-turn-shift t = record {
-  fit′ = t .fit′;
-  k-same = t .k-same;
-  processes-same = t .processes-same;
-  step = t .step;
-  stacks = t .stacks;
-  owners′ = t .owners′;
-  drawn-by = λ r a c. t .drawn-by r a c .0;
-}
-
-pub shift-self : {hs : ℕ → Header} {bs : ℕ → List ℕ} {j : ℕ} (n : ℕ) → Now hs bs j → Shift hs bs j n (hs j) (bs j)
-shift-self n now = record {
-  fit′ = now .fit;
-  k-same = refl;
-  processes-same = refl;
-  step = same-self now;
-  stacks = λ m i d. refl;
-  owners′ = now .owners;
-  drawn-by = λ r a c. absurd (omega arith);
-}
+use Rattle.link.proofs.Moments.{tables, Now, Busy, Follows, already, afterwards, answers, Shift, k-low, now-sound}
 
 module _ {hs : ℕ → Header} {bs : ℕ → List ℕ} {j : ℕ} {h′ : Header} {b′ : List ℕ} (eh : hs (suc j) ≡ h′) (eb : bs (suc j) ≡ b′) where
   pub shift-to : {n : ℕ} → Shift hs bs j n h′ b′ → Shift hs bs j n (hs (suc j)) (bs (suc j))
@@ -92,56 +56,38 @@ module _ {hs : ℕ → Header} {bs : ℕ → List ℕ} {j n : ℕ} (now : Now hs
     owners = sh .owners′;
   }
 
-  place-next : {p : ℕ} → In (hs j .processes) p → In (hs (suc j) .processes) p
-  place-next {p} u = subst (λ (x : ℕ). In x p) (sym (sh .processes-same)) u
-
   pub place-back : {p : ℕ} → In (hs (suc j) .processes) p → In (hs j .processes) p
   place-back {p} u = subst (λ (x : ℕ). In x p) (sh .processes-same) u
 
   held-next : (q : Process) → HeldBy k (S j) q → HeldBy (hs (suc j) .k) (S (suc j)) q
   held-next q w = subst (λ (x : ℕ). HeldBy x (S (suc j)) q) (sym (sh .k-same)) (held-more (grown (k-low now) (now-sound now) (sh .step)) w)
 
-  counters-next : (q : Process) → CountersBy k q → CountersBy (hs (suc j) .k) q
-  counters-next q c = subst (λ (x : ℕ). CountersBy x q) (sym (sh .k-same)) c
+  -- what a process knows at the next moment, by the k of that moment
+  busy-at : {i p : ℕ} (q : Process) → i ≤ j → In (hs j .processes) p → HeldBy (hs (suc j) .k) (S (suc j)) q → CountersBy k q
+      → KnowsAt k S i (suc j) (mindOf (hs (suc j)) (bs (suc j)) p q) (q .point) → Busy hs bs i (suc j) p q
+  busy-at {i} {p} q l u w c z = record {
+    since = omega arith;
+    place = subst (λ (x : ℕ). In x p) (sym (sh .processes-same)) u;
+    held = w;
+    counters = subst (λ (x : ℕ). CountersBy x q) (sym (sh .k-same)) c;
+    knows = subst (λ (x : ℕ). KnowsAt x S i (suc j) (mindOf (hs (suc j)) (bs (suc j)) p q) (q .point)) (sym (sh .k-same)) z;
+  }
 
   -- whoever did not move
   pub busy-next : {i p : ℕ} (q : Process) → p ≢ n → Busy hs bs i j p q → Busy hs bs i (suc j) p q
-  busy-next {i} {p} q d y = record {
-    since = omega (arith, y .since);
-    place = place-next (y .place);
-    held = held-next q (y .held);
-    counters = counters-next q (y .counters);
-    knows =
-        subst (λ (x : ℕ). KnowsAt x S i (suc j) (mindOf (hs (suc j)) (bs (suc j)) p q) (q .point)) (sym (sh .k-same))
-        (subst (λ (M : Mind). KnowsAt k S i (suc j) M (q .point)) (sym (mind-same (hs j) (hs (suc j)) (bs j) (bs (suc j)) p q (sh .stacks p (y .place) d)))
-        (stays-at S i j (mindOf (hs j) (bs j) p q) (k-low now) (now-sound now) (sh .step) (q .point) (y .knows)));
-  }
+  busy-next {i} {p} q d y =
+      busy-at q (y .since) (y .place) (held-next q (y .held)) (y .counters)
+      (subst (λ (M : Mind). KnowsAt k S i (suc j) M (q .point)) (sym (mind-same (hs j) (hs (suc j)) (bs j) (bs (suc j)) p q (sh .stacks p (y .place) d)))
+      (stays-at S i j (mindOf (hs j) (bs j) p q) (k-low now) (now-sound now) (sh .step) (q .point) (y .knows)))
 
   -- the one that did
   pub busy-own : {i : ℕ} (q : Process) (s : Stepped) → i ≤ j → In (hs j .processes) n → Follows hs bs i j n (hs (suc j)) (bs (suc j)) q s
       → Busy hs bs i (suc j) n (s .process) ⊎ (s .process ≡ idle)
-  busy-own {i} q s l u (already q′ e fr w c z) = inl (subst (λ (x : Stepped). Busy hs bs i (suc j) n (x .process)) (sym e) goes)
-    where
-      goes : Busy hs bs i (suc j) n (withSteps q′ (stepsUp (q′ .steps)))
-      goes = record {
-        since = omega arith;
-        place = place-next u;
-        held = held-next q′ w;
-        counters = counters-next q′ c;
-        knows =
-            subst (λ (x : ℕ). KnowsAt x S i (suc j) (mindOf (hs (suc j)) (bs (suc j)) n q′) (q′ .point)) (sym (sh .k-same))
-            (stays-at S i j (mindOf (hs (suc j)) (bs (suc j)) n q′) (k-low now) (now-sound now) (sh .step) (q′ .point) z);
-      }
-  busy-own {i} q s l u (afterwards q′ e fr w c m z) = inl (subst (λ (x : Stepped). Busy hs bs i (suc j) n (x .process)) (sym e) goes)
-    where
-      goes : Busy hs bs i (suc j) n (withSteps q′ (stepsUp (q′ .steps)))
-      goes = record {
-        since = omega arith;
-        place = place-next u;
-        held = subst (λ (x : ℕ). HeldBy x (S (suc j)) q′) (sym (sh .k-same)) w;
-        counters = counters-next q′ c;
-        knows =
-            subst (λ (x : ℕ). KnowsAt x S i (suc j) (mindOf (hs (suc j)) (bs (suc j)) n q′) (q′ .point)) (sym (sh .k-same))
-            (knows-serves S i (suc j) (mindOf (hs (suc j)) (bs (suc j)) n q′) (q′ .point) m z);
-      }
+  busy-own {i} q s l u (already q′ e fr w c z) =
+      inl (subst (λ (x : Stepped). Busy hs bs i (suc j) n (x .process)) (sym e) (busy-at (withSteps q′ (stepsUp (q′ .steps))) l u (held-next q′ w) c
+      (stays-at S i j (mindOf (hs (suc j)) (bs (suc j)) n q′) (k-low now) (now-sound now) (sh .step) (q′ .point) z)))
+  busy-own {i} q s l u (afterwards q′ e fr w c m z) =
+      inl (subst (λ (x : Stepped). Busy hs bs i (suc j) n (x .process)) (sym e) (busy-at (withSteps q′ (stepsUp (q′ .steps))) l u
+      (subst (λ (x : ℕ). HeldBy x (S (suc j)) q′) (sym (sh .k-same)) w) c
+      (knows-serves S i (suc j) (mindOf (hs (suc j)) (bs (suc j)) n q′) (q′ .point) m z)))
   busy-own q s l u (answers a e fr w) = inr (ap (λ (x : Stepped). x .process) e)

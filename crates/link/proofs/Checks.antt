@@ -1,5 +1,5 @@
 -- The damage checks hold of what the history says is there: nodes, pendings, records, what is below a node.
-use Prim.Native.Nat.{ℕ, _+_, _*_, _-_, _≤_, _<_}
+use Prim.Native.Nat.{ℕ, _+_, _*_, _≤_, _<_}
 use mathlib.Core.Path.{_≡_, refl, ap, _∙_}
 use mathlib.Core.Bool.{true}
 use mathlib.Core.List.{List}
@@ -7,7 +7,7 @@ use native.Mathlib.Omega.{arith}
 use lib.Dec.{leb}
 use borrow.Author.Tests.{lt-ltb, le-ltb, le-leb, eq-eqb}
 use Rattle.tables.specs.Choice.{pick, both, within}
-use Rattle.tables.specs.Numbers as numbers
+use Rattle.tables.specs.Numbers.{infinity}
 use Rattle.tables.specs.Layout.{tagWord, recordWord, lField, pField, thirdField, expectedField, processField, operationField, keyField}
 use Rattle.tables.specs.Pending.{wordOf, pendingOf, recordOfKind, pendingGood}
 use Rattle.tables.specs.Node.{kinOfTag, kinOf, belowOf, isNode, isInternal, isLeaf}
@@ -19,7 +19,7 @@ use Rattle.tables.specs.declared.pending.Pending.the-variants.{Clean, Replace, 
 use Rattle.tables.proofs.OneToOne.{pending-word}
 use Rattle.tables.proofs.Picks.{both-is}
 use Rattle.damage.specs.Helped.{ownerGood, expectedGood, recordGood}
-use Rattle.history.specs.View.{In, infinity}
+use Rattle.history.specs.View.{In}
 use Rattle.history.specs.Shared.{Shared}
 use Rattle.history.proofs.Invariant.{Word, clean, replacing, pruning, marked, Made, put, out, sprouted, Sound}
 use Rattle.history.proofs.Touch.{p-used, gp-used, new-used}
@@ -109,10 +109,9 @@ module _ {b : List ℕ} {h : Header} (fit : Fit h b) (I : Sound (h .k) (tablesOf
   leaf-tag = omega (arith, I .inv .shape .tags (recordWord b h r lField) l-used, I .inv .good r i .leaf)
 
   owner-good : (2 ≤ recordWord b h r operationField) × (recordWord b h r operationField ≤ 3) → ownerGood b h r ≡ true
-  unfolding infinity
   owner-good o =
       both-is (within-is 2 (recordWord b h r operationField) 3 (o .0) (o .1))
-      (both-is (lt-ltb (recordWord b h r keyField) numbers.infinity (I .inv .good r i .finite))
+      (both-is (lt-ltb (recordWord b h r keyField) infinity (I .inv .good r i .finite))
       (within-is 1 (recordWord b h r processField) (h .processes) (owner .low) (owner .high)))
 
   expected-good : (c : ℕ) → recordWord b h r expectedField ≡ 4 * c → c ≤ h .recordsused → expectedGood b h r ≡ true

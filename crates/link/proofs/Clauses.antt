@@ -1,5 +1,5 @@
 -- Over all lists of events from a state at rest: never damaged, search order, and what changes child words and the set.
-use Prim.Native.Nat.{ℕ, zero, suc, _+_, _-_, _≤_}
+use Prim.Native.Nat.{ℕ, zero, suc, _+_, _≤_}
 use mathlib.Core.Path.{_≡_, refl, sym, ap, _∙_, subst}
 use mathlib.Core.Logic.{_≢_, _⊎_, inl, inr}
 use mathlib.Core.List.{List, List·Memᴰ}
@@ -15,7 +15,7 @@ use Rattle.process.specs.declared.Stepped.{Stepped}
 use Rattle.process.specs.Answer.{stepsUp}
 use Rattle.points.specs.Rows.{rowOf}
 use Rattle.points.specs.declared.start.StartAnswer.the-variants as start-answers
-use Rattle.points.proofs.Refusals.{one-step}
+use Rattle.points.proofs.Refusals.{one-step, one-start}
 use Rattle.index.specs.Calls.{StartOut, StepOut}
 use Rattle.history.specs.View.{In, route, keys, Reach, Below}
 use Rattle.history.specs.Shared.{Shared}
@@ -25,7 +25,6 @@ use Rattle.history.proofs.Invariant.{Sound}
 use Rattle.history.proofs.SearchOrder.{figure-3}
 use Rattle.history.proofs.ChildWords.{kids-same, swap-moves}
 use Rattle.history.proofs.SetLaws.{step-set-same, step-set-swap}
-use Rattle.history.proofs.Walking.{Listing, listing}
 use Rattle.history.proofs.Runs.{sound-at, grown-at}
 use Rattle.history.proofs.Swapping.{SwapBetween, one-swap}
 use Rattle.link.specs.Events.{Event, step, State, taken, startIn, stepIn, eventAt, stateAt, blockAt, headerAt, Proper, sinceAt}
@@ -36,16 +35,6 @@ use Rattle.link.proofs.Stepping.{turn, step-sound}
 use Rattle.link.proofs.Calls as calls
 use Rattle.link.proofs.Reached.{Good, at-work, step-one, Kind, no-swap, swap-of, move, good-always}
 use Rattle.link.proofs.Beginning.{Rested, good-rest}
-
--- the step from moment m, with the k of the whole run
-pub data KindAt (s : State) (es : List Event) (m k : ℕ) (c : Step k (tables (headerAt s es) (blockAt s es) m) (tables (headerAt s es) (blockAt s es) (suc m))) : Type 0 where
-  none-swaps : step-swaps k c ≡ 0 → ((r : ℕ) → ¬ ChildSwap s es m r) → KindAt s es m k c
-  one-swaps : (r : ℕ) → 1 ≤ r → ChildSwap s es m r → step-swaps k c ≡ r → KindAt s es m k c
-
-kind-at : {s : State} {es : List Event} {m : ℕ} {c : Step (headerAt s es m .k) (tables (headerAt s es) (blockAt s es) m) (tables (headerAt s es) (blockAt s es) (suc m))}
-    → Kind s es m c → KindAt s es m (headerAt s es m .k) c
-kind-at (no-swap a b) = none-swaps a b
-kind-at (swap-of r l w e) = one-swaps r l w e
 
 -- a step of a busy process goes on or ends
 pub stepped-says : {hs : ℕ → Header} {bs : ℕ → List ℕ} {i j n : ℕ} {h′ : Header} {b′ : List ℕ} {q : Process} {s : Stepped} → Follows hs bs i j n h′ b′ q s
@@ -86,10 +75,11 @@ module _ {s : State} {es : List Event} (reached : Reached s es) where
   processes-at zero = refl
   processes-at (suc m) = move (good m) .processes-same ∙ processes-at m
 
-  moves : (m : ℕ) → (c : Step k (S m) (S (suc m))) × KindAt s es m k c
+  -- the step from moment m, with the k of the whole run
+  moves : (m : ℕ) → (c : Step k (S m) (S (suc m))) × Kind s es m k c
   moves m =
-      subst (λ (x : ℕ). (c : Step x (S m) (S (suc m))) × KindAt s es m x c) (k-at m)
-      (move (good m) .step, kind-at (move (good m) .kind))
+      subst (λ (x : ℕ). (c : Step x (S m) (S (suc m))) × Kind s es m x c) (k-at m)
+      (move (good m) .step, move (good m) .kind)
 
   pub step-at : (m : ℕ) → Step k (S m) (S (suc m))
   step-at m = moves m .0
@@ -131,12 +121,9 @@ module _ {s : State} {es : List Event} (reached : Reached s es) where
   pub start-refused : (m n operation key : ℕ) (e : Refusal) → startIn (W m) n operation key .answer ≡ start-answers.Refused e → NoStart (W m) n operation key (numberOf e)
   start-refused m n operation key e z = go (calls.start-goes (W m) (good m .now .fit) (good m .rows) n operation key)
     where
-      same : (d f : Refusal) → start-answers.Refused d ≡ start-answers.Refused f → d ≡ f
-      same d f x = cc
-
       go : calls.Start (W m) (good m .now .fit) (good m .rows) n operation key → NoStart (W m) n operation key (numberOf e)
       go (calls.refused r d x) =
-          subst (λ (a : Refusal). NoStart (W m) n operation key (numberOf a)) (same (refusal r) e (sym (ap (λ (o : StartOut). o .answer) x) ∙ z)) d
+          subst (λ (a : Refusal). NoStart (W m) n operation key (numberOf a)) (one-start (refusal r) e (sym (ap (λ (o : StartOut). o .answer) x) ∙ z)) d
       go (calls.accepted u a c d f x) =
           let v : start-answers.Accepted ≡ start-answers.Refused e = sym (ap (λ (o : StartOut). o .answer) x) ∙ z in
           let w : _≡_ {A = ℕ} 0 1 = cc in absurd (omega arith)
@@ -146,25 +133,21 @@ module _ {s : State} {es : List Event} (reached : Reached s es) where
       → S m .view .tag l ≢ k → List·Memᴰ x (keys (S m .view) l) → route k (S m .view .key n) x ≡ i
   search-order m = figure-3 (omega (arith, hk)) (sound m .inv .uniq) (sound m .inv .ordered)
 
-  -- the walk of the history over the tables of a moment never runs out, and lists exactly the set, ascending
-  pub lists : (m deep left : ℕ) → S m .nodes ≤ deep → S m .nodes ≤ left → Listing k (S m) deep left
-  lists m deep left a c = listing deep left hk (sound m) a c
-
   -- 3. A child word of a node in use changes at an event exactly when it is a child swap
   pub kids-stay : (m : ℕ) → ((r : ℕ) → ¬ ChildSwap s es m r) → (n j : ℕ) → In (S m .nodes) n → In k j → S (suc m) .view .child n j ≡ S m .view .child n j
   kids-stay m f n j u i = go (moves m .1)
     where
-      go : KindAt s es m k (moves m .0) → S (suc m) .view .child n j ≡ S m .view .child n j
-      go (none-swaps e d) = kids-same hk (sound m) (moves m .0) e n j u i
-      go (one-swaps r l w e) = absurd (f r w)
+      go : Kind s es m k (moves m .0) → S (suc m) .view .child n j ≡ S m .view .child n j
+      go (no-swap e d) = kids-same hk (sound m) (moves m .0) e n j u i
+      go (swap-of r l w e) = absurd (f r w)
 
   -- the record of a child swap is the one of the step
   swap-is : (m r : ℕ) → ChildSwap s es m r → (step-swaps k (moves m .0) ≡ r) × (1 ≤ r)
   swap-is m r w = go (moves m .1)
     where
-      go : KindAt s es m k (moves m .0) → (step-swaps k (moves m .0) ≡ r) × (1 ≤ r)
-      go (none-swaps e d) = absurd (d r w)
-      go (one-swaps x l v e) =
+      go : Kind s es m k (moves m .0) → (step-swaps k (moves m .0) ≡ r) × (1 ≤ r)
+      go (no-swap e d) = absurd (d r w)
+      go (swap-of x l v e) =
           let z : v .process ≡ w .process = step-one (v .process) (w .process) (sym (v .event) ∙ w .event) in
           let a : x ≡ r = sym (v .helps) ∙ ap (λ (p : ℕ). taken (W m) p .helped) z ∙ w .helps in
           (e ∙ a, omega arith)
@@ -176,9 +159,9 @@ module _ {s : State} {es : List Event} (reached : Reached s es) where
   pub set-stays : (m : ℕ) → ((r : ℕ) → ¬ ChildSwap s es m r) → SameSet k (S m .view) (S (suc m) .view)
   set-stays m f = go (moves m .1)
     where
-      go : KindAt s es m k (moves m .0) → SameSet k (S m .view) (S (suc m) .view)
-      go (none-swaps e d) = step-set-same hk (sound m) (moves m .0) e
-      go (one-swaps r l w e) = absurd (f r w)
+      go : Kind s es m k (moves m .0) → SameSet k (S m .view) (S (suc m) .view)
+      go (no-swap e d) = step-set-same hk (sound m) (moves m .0) e
+      go (swap-of r l w e) = absurd (f r w)
 
   pub set-changes : (m r : ℕ) → ChildSwap s es m r → SetMoves k (S m .view) (S (suc m) .view) (S m .rec r)
   set-changes m r w = let z = swap-is m r w in step-set-swap hk (sound m) (moves m .0) r (z .0) (z .1)
@@ -191,9 +174,9 @@ module _ {s : State} {es : List Event} (reached : Reached s es) where
   unfolding run
   swap-event end r i j w l = go (moves (w .when) .1)
     where
-      go : KindAt s es (w .when) k (moves (w .when) .0) → ChildSwap s es (w .when) r
-      go (none-swaps e d) = absurd (omega (arith, w .is, e))
-      go (one-swaps x a v e) = subst (λ (y : ℕ). ChildSwap s es (w .when) y) (sym e ∙ w .is) v
+      go : Kind s es (w .when) k (moves (w .when) .0) → ChildSwap s es (w .when) r
+      go (no-swap e d) = absurd (omega (arith, w .is, e))
+      go (swap-of x a v e) = subst (λ (y : ℕ). ChildSwap s es (w .when) y) (sym e ∙ w .is) v
 
   -- each record has at most one
   pub swaps-once : (m m′ r : ℕ) → ChildSwap s es m r → ChildSwap s es m′ r → m ≡ m′

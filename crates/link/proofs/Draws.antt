@@ -1,5 +1,5 @@
 -- Rows 4 and 5 as the history sees them: the words after a draw are those of a draw of the history.
-use Prim.Native.Nat.{ℕ, _+_, _*_, _-_, _≤_, _<_}
+use Prim.Native.Nat.{ℕ, _+_, _*_, _≤_, _<_}
 use mathlib.Core.Path.{_≡_, refl, sym}
 use mathlib.Core.List.{List}
 use native.Mathlib.Omega.{arith}
@@ -14,10 +14,10 @@ use Rattle.tables.proofs.Places.{header-node, header-record, header-stack, node
 use Rattle.draws.specs.declared.Job.{Job}
 use Rattle.draws.specs.Draw.{newNode, newRecord, neededNodes, nodesDrawn, recordImage, committed, replaceDrawn, pruneDrawn}
 use Rattle.draws.proofs.After.{Room, committed-length, committed-other, committed-record, committed-flag, committed-header, nodes-length, replace-other, replace-length, replace-header}
-use Rattle.history.specs.View.{In, within}
+use Rattle.history.specs.View.{In}
 use Rattle.history.specs.Shared.{Desc}
 use Rattle.history.specs.Change.{SwapPend, NewRecord, replace-words, prune-words}
-use Rattle.history.proofs.Within.{within-same}
+use Rattle.history.proofs.Alone.{alone-same}
 use Rattle.link.specs.Tables.{viewOf, descOf, tablesOf, stackOf}
 use Rattle.link.proofs.Writes.{Fit, in-node, in-record, stack-same}
 
@@ -112,7 +112,7 @@ module _ {h : Header} {b b′ : List ℕ} {flagged needed kind : ℕ} {image : L
   pub drew-swap : SwapPend (h .k) (h .nodesused) (viewOf h b) (viewOf (drawnHeader h needed) b′) flagged (4 * newRecord h + kind)
   drew-swap = record {
     tag-same = λ n i. d .node n 0 i (omega arith) (λ e. omega (arith, e .1, fit .limits .numbers .k-low));
-    key-same = λ n i. within-same (h .k) _ _ (λ a l g. d .node n a i (omega arith) (λ e. omega (arith, e .1)));
+    key-same = λ n i. alone-same (h .k) _ _ (λ a l g. d .node n a i (omega arith) (λ e. omega (arith, e .1)));
     child-same = λ n j i s. d .node n (childPlace (h .k) j) i (omega (arith, s)) (λ e. omega (arith, e .1, s));
     pend-same = λ n i e. d .node n (pendingPlace (h .k)) i (omega arith) (λ z. e (z .0));
     pend-new = d .flag;

@@ -34,8 +34,8 @@ use Rattle.history.proofs.Knows.{Mind, Owns, none-yet, owns, Serves, own-done}
 use Rattle.link.specs.Tables.{viewOf, tablesOf, stackOf}
 use Rattle.link.proofs.Writes.{Writes, writes-none, writes-node, writes-stack, writes-tables, pend-swap, tables-same, stack-same, stack-over-node, stack-over-stack}
 use Rattle.link.proofs.Checks.{word-names, pending-good, kind-good}
-use Rattle.link.proofs.Minds.{mindOf, stack-room}
-use Rattle.link.proofs.Moments.{tables, Now, Busy, did, Follows, answers, nobody, Turn, k-low, now-sound, quiet, restarts}
+use Rattle.link.proofs.Minds.{no-find, mindOf, stack-room}
+use Rattle.link.proofs.Moments.{tables, Now, Busy, did, Follows, answers, nobody, Turn, now-sound, quiet, restarts}
 use Rattle.link.proofs.Seeing.{counters-help, Loose, free, below as at-bottom, owns-loose, to-top}
 use Rattle.link.proofs.Searching.{known}
 use Rattle.link.proofs.Serving.{written, stacks-node, stack-at}
@@ -68,9 +68,6 @@ module _ {hs : ℕ → Header} {bs : ℕ → List ℕ} {i j n : ℕ} (now : Now 
   I : Sound k (S j)
   I = now-sound now
 
-  hk : 2 ≤ k
-  hk = k-low now
-
   -- the record at a place of the stack
   module _ {f : ℕ → ℕ} {d : ℕ} (st : Stacked k (S j) f d) where
     stacked-kind : (m : ℕ) → m < d → recordOfKind b h (f m) 2 ≡ true
@@ -88,9 +85,6 @@ module _ {hs : ℕ → Header} {bs : ℕ → List ℕ} {i j n : ℕ} (now : Now 
         go (no e) = rw (ne-eqb d 0 e, t (d - 1) (less e)) (stacked-kind (d - 1) (omega arith))
 
   module _ {m : ℕ} (at : q .point ≡ m) (low : 6 ≤ m) (w : Serves k (S j) mind m) where
-    pub busy : q .operation ≢ 1
-    busy z = omega (arith, y .counters .find z)
-
     room : q .depth ≤ depthOf h
     room = stack-room q (now .fit) I (y .counters) (w .stacked)
 
@@ -109,7 +103,7 @@ module _ {hs : ℕ → Header} {bs : ℕ → List ℕ} {i j n : ℕ} (now : Now 
 
         yes-by : Owns (S j) mind → q .depth ≡ 0 → q .own ≢ 0 → Follows hs bs i j n h b′ q (endingOf q (answer 1))
         yes-by (none-yet z) e x = absurd (x z)
-        yes-by (owns u a c f g o) e x = answers (answer 1) refl (λ z. subst (λ (m : ℕ). ¬ Stands (tablesOf h b′ .view) (S j .rec m) m) (g e) gone) (did busy refl u a c f (own-done {M = mind} ends (w .own) e x))
+        yes-by (owns u a c f g o) e x = answers (answer 1) refl (λ z. subst (λ (m : ℕ). ¬ Stands (tablesOf h b′ .view) (S j .rec m) m) (g e) gone) (did (no-find (y .counters) (omega arith)) refl u a c f (own-done {M = mind} ends (w .own) e x))
 
         empty : q .depth ≡ 0 → (t : Bool) → eqb (q .own) 0 ≡ t → Follows hs bs i j n h b′ q (pick (not t) (endingOf q (answer 1)) (goingOn (restartedOf q)))
         empty e true x = restarts n now q q h b′ (λ z. absurd (z (eqb-true (q .own) 0 x))) (y .since) (y .counters)
@@ -119,7 +113,7 @@ module _ {hs : ℕ → Header} {bs : ℕ → List ℕ} {i j n : ℕ} (now : Now 
         go (yes e) = rw (eq-eqb (q .depth) 0 e) (empty e (eqb (q .own) 0) refl)
         go (no e) =
             rw (ne-eqb (q .depth) 0 e)
-            (to-top n now q q b′ (topOf b h n q) (y .since) (y .counters) (y .held) busy (subst (λ (f : ℕ → ℕ). Stacked k (S j) f (q .depth)) (sym same) (w .stacked))
+            (to-top n now q q b′ (topOf b h n q) (y .since) (y .counters) (y .held) (no-find (y .counters) (omega arith)) (subst (λ (f : ℕ → ℕ). Stacked k (S j) f (q .depth)) (sym same) (w .stacked))
             (subst (λ (f : ℕ → ℕ). Loose (S j) n (q .operation) (q .key) (q .depth) (q .own) f) (sym same) (owns-loose mind (omega arith) (w .own)))
             (λ d x. top-is d x ∙ ap (λ (f : ℕ → ℕ). f d) (sym same)) refl (λ z. absurd (e z)) (q .depth - 1) (more e))
 
@@ -278,8 +272,8 @@ module _ {hs : ℕ → Header} {bs : ℕ → List ℕ} {i j n : ℕ} (now : Now 
           go (no e) =
               rw (ne-eqb d₁ 0 e)
               (to-top n now q (withDepth q d₁) (popped c) (underTop b h n q) (y .since)
-              (rw e₁₀ (counters-help 10 (q .index) d₁ (q .own) (y .counters) (busy e₁₀ (omega arith) w₁₀) (omega arith) (omega arith) (y .counters .index-high) (λ z. absurd (omega arith)) (λ z x. absurd (omega arith)) (λ z. omega arith)))
-              (y .held) (busy e₁₀ (omega arith) w₁₀) st (loose e (w₁₀ .own)) top refl (λ z. absurd (e z)) (d₁ - 1) (more e))
+              (rw e₁₀ (counters-help 10 (q .index) d₁ (q .own) (y .counters) (no-find (y .counters) (omega arith)) (omega arith) (omega arith) (y .counters .index-high) (λ z. absurd (omega arith)) (λ z x. absurd (omega arith)) (λ z. omega arith)))
+              (y .held) (no-find (y .counters) (omega arith)) st (loose e (w₁₀ .own)) top refl (λ z. absurd (e z)) (d₁ - 1) (more e))
 
     pop-sound : both (seenGood b h (touch10 b h q)) (popGood b h n q (underTop b h n q)) ≡ true
     pop-sound =

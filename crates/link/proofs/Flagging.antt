@@ -1,5 +1,5 @@
 -- Rows 4 and 5: the compare on p's or gp's pending, the draw, the answer full, or help.
-use Prim.Native.Nat.{ℕ, _+_, _-_, _≤_, _<_}
+use Prim.Native.Nat.{ℕ, _+_, _≤_, _<_}
 use mathlib.Core.Path.{_≡_, refl, sym, ap, _∙_, subst}
 use mathlib.Core.Logic.{_≢_, inr}
 use mathlib.Core.Bool.{Bool, true, false}
@@ -28,7 +28,7 @@ use Rattle.help.specs.Touch.{seenBy, succeeds}
 use Rattle.help.specs.Help.{topOf, helping, helpGood}
 use Rattle.help.specs.Rows.{seenGood, kinAt}
 use Rattle.points.specs.Rows.{jobOf, flagGood, touch4, touch5, heldGood, leafGood4, room4, row4, row5}
-use Rattle.history.specs.View.{In, infinity, keys}
+use Rattle.history.specs.View.{In, keys}
 use Rattle.history.specs.Shared.{Shared}
 use Rattle.history.specs.Change.{draw-replace, draw-prune}
 use Rattle.history.specs.Effects.{swaps}
@@ -43,7 +43,7 @@ use Rattle.link.proofs.Keyed.{keys-are, mem-holds, not-holds, sorted-ri
 use Rattle.link.proofs.Draws.{drawnHeader, Drew, drew-prune, drew-replace, drew-fit, drew-swap, drew-stack, prune-record, replace-record}
 use Rattle.link.proofs.Born.{needs-one, needs-many, born-put, born-take, born-sprout}
 use Rattle.link.proofs.Checks.{word-names, kin-leaf, node-good, pending-good}
-use Rattle.link.proofs.Minds.{mindOf, held-more}
+use Rattle.link.proofs.Minds.{no-find, only-delete, mindOf, held-more}
 use Rattle.link.proofs.Moments.{tables, Now, Busy, no-room, Follows, afterwards, answers, nobody, Turn, k-low, now-sound, quiet}
 use Rattle.link.proofs.Seeing.{counters-help, held-records}
 use Rattle.link.proofs.Searching.{known, helps-word}
@@ -88,15 +88,35 @@ module _ {hs : ℕ → Header} {bs : ℕ → List ℕ} {i j n : ℕ} (now : Now 
   I : Sound k (S j)
   I = now-sound now
 
-  fin : q .key < infinity
-  unfolding infinity
-  fin = y .counters .finite
-
   -- another value is seen: it is helped
   sees : (point : ℕ) → q .point ≡ point → point ≤ 5 → q .operation ≢ 1 → (a : ℕ) → In (h .nodesused) a → (top : ℕ)
       → Follows hs bs i j n h b q (helping top q (pendingOf (pendingWord b h a)))
   sees point e l o a u top =
       helps-word now q y (omega arith) o q (y .counters) (y .held) refl (y .counters .early-depth (omega arith)) (y .counters .early-own (omega arith)) (read-now I u) top
+
+  -- what either draw is: the new record is of this process, and its own
+  drew-turn : {b′ : List ℕ} {flagged needed kind third expected : ℕ} {s : Stepped} → Drew h b b′ flagged needed kind (recordImage kind third expected job) → Room h needed
+      → q .point ≤ 5 → (c : Step k (S j) (tablesOf (drawnHeader h needed) b′)) → step-swaps k c ≡ 0 → s .process .own ≡ newRecord h
+      → Follows hs bs i j n (drawnHeader h needed) b′ q s → Turn hs bs i j n q true s b′
+  drew-turn {b′} {needed = needed} drew room l c none own f = record {
+    is-sound = refl;
+    h′ = drawnHeader h needed;
+    shift = record {
+      fit′ = drew-fit (now .fit) drew room;
+      k-same = refl;
+      processes-same = refl;
+      step = c;
+      stacks = λ m u d. drew-stack (now .fit) drew m u;
+      owners′ = drew-owners job drew (now .owners) (y .place);
+      drawn-by = λ r a e. rw (only r a e) (drew .new processField (omega arith));
+    };
+    swapper = nobody (λ z. absurd (omega arith)) (λ z. absurd (omega arith)) none;
+    drawn-as = λ r a e. rw (only r a e) (own, drew .new operationField (omega arith), drew .new keyField (omega arith));
+    follows = f;
+  }
+    where
+      only : (r : ℕ) → h .recordsused < r → r ≤ newRecord h → r ≡ newRecord h
+      only r a e = omega arith
 
   module _ (e₄ : q .point ≡ 4) where
     w₄ : Replaces k S i j mind
@@ -108,14 +128,11 @@ module _ {hs : ℕ → Header} {bs : ℕ → List ℕ} {i j n : ℕ} (now : Now 
     abbrev needs : ℕ
     needs = neededNodes h (q .operation) count
 
-    not-find : q .operation ≢ 1
-    not-find z = omega (arith, y .counters .find z)
-
     leaf : count < k
-    leaf = omega (arith, I .inv .shape .tags (q .l) (w₄ .leaf .used), w₄ .leaf .leaf)
+    leaf = omega (arith, I .inv .shape .tags (q .l) (w₄ .arrived .leaf .used), w₄ .arrived .leaf .leaf)
 
     p-used : In (h .nodesused) (q .p)
-    p-used = w₄ .leaf .way .used
+    p-used = w₄ .arrived .leaf .way .used
 
     row : keysOf b h (q .l) count ≡ keys (S j .view) (q .l)
     row = keys-are b h (q .l) leaf
@@ -128,7 +145,7 @@ module _ {hs : ℕ → Header} {bs : ℕ → List ℕ} {i j n : ℕ} (now : Now 
     leaf-sound : leafGood4 b h q (kinAt b h (q .l)) ≡ true
     leaf-sound =
         subst (λ (x : Kin). leafGood4 b h q x ≡ true) (sym (kin-leaf b h (q .l) leaf))
-        (both-is (ap rises row ∙ sorted-rises _ (I .inv .shape .leaf-keys (q .l) (w₄ .leaf .used) (w₄ .leaf .leaf))) (held-good (w₄ .job)))
+        (both-is (ap rises row ∙ sorted-rises _ (I .inv .shape .leaf-keys (q .l) (w₄ .arrived .leaf .used) (w₄ .arrived .leaf .leaf))) (held-good (w₄ .job)))
 
     seen-sound : seenGood b h (touch4 h q) ≡ true
     seen-sound = pending-good b h (pendingOf (pendingWord b h (q .p))) (word-names (S j) (I .inv .pending (q .p) p-used))
@@ -138,7 +155,7 @@ module _ {hs : ℕ → Header} {bs : ℕ → List ℕ} {i j n : ℕ} (now : Now 
         both-is seen-sound (either-some (succeeds b h (touch4 h q)) _ (inr (help-good-empty b h (q .depth) (topOf b h n q) (y .counters .early-depth (omega arith)) (pendingOf (pendingWord b h (q .p))))))
 
     sound : both (isNode (kinOf b h (q .l))) (both (leafGood4 b h q (kinAt b h (q .l))) (flagGood b h n q (touch4 h q))) ≡ true
-    sound = both-is (node-good b h (q .l) (w₄ .leaf .used) (omega (arith, leaf))) (both-is leaf-sound flag-sound)
+    sound = both-is (node-good b h (q .l) (w₄ .arrived .leaf .used) (omega (arith, leaf))) (both-is leaf-sound flag-sound)
 
     -- the draw
     module _ (same : pendingWord b h (q .p) ≡ wordOf (q .pseen)) (room : Room h needs) where
@@ -165,30 +182,18 @@ module _ {hs : ℕ → Header} {bs : ℕ → List ℕ} {i j n : ℕ} (now : Now 
       step : Step k (S j) (tablesOf h′ b′)
       step =
           changes (draw-replace (newRecord h) (q .p)
-          (draws-replace {M = mind} (k-low now) (now .run) (now .first) fin (newRecord h) (w₄ .e) needs (w₄ .leaf) (w₄ .job) (same ∙ w₄ .p-clean) (words (w₄ .job) (sprouts h (q .operation) count) refl)
+          (draws-replace {M = mind} (k-low now) (now .run) (now .first) (y .counters .finite) (newRecord h) (w₄ .arrived .e) needs (w₄ .arrived .leaf) (w₄ .job) (same ∙ w₄ .arrived .p-clean) (words (w₄ .job) (sprouts h (q .operation) count) refl)
           (drew-swap (now .fit) drew) refl (replace-record (now .fit) job count room p-used)))
 
       drawn : Turn hs bs i j n q true (goingOn (toSix (withOwn q (newRecord h)) (newRecord h))) b′
       unfolding step step-swaps swaps
-      drawn = record {
-        is-sound = refl;
-        h′ = h′;
-        fit′ = drew-fit (now .fit) drew room;
-        k-same = refl;
-        processes-same = refl;
-        nodes-same = refl;
-        step = step;
-        swapper = nobody (λ z. absurd (omega arith)) (λ z. absurd (omega arith)) refl;
-        stacks = λ m u d. drew-stack (now .fit) drew m u;
-        owners′ = drew-owners job drew (now .owners) (y .place);
-        drawn-by = λ m a c. (let z : m ≡ newRecord h = omega arith in (subst (λ (x : ℕ). recordWord b′ h x processField ≡ n) (sym z) (drew .new processField (omega arith)), sym z, subst (λ (x : ℕ). recordWord b′ h x operationField ≡ q .operation) (sym z) (drew .new operationField (omega arith)), subst (λ (x : ℕ). recordWord b′ h x keyField ≡ q .key) (sym z) (drew .new keyField (omega arith))));
-        follows =
-            afterwards (toSix (withOwn q (newRecord h)) (newRecord h)) refl (λ d z. absurd (z (y .counters .early-own (omega arith))))
-            (held-records (newRecord h) (newRecord h) (omega arith) (omega arith) (held-more (grown (k-low now) I step) (y .held)))
-            (counters-help 6 1 (q .depth) (newRecord h) (y .counters) not-find (omega arith) (omega arith) (omega (arith, k-low now)) (λ z. omega arith) (λ z x. absurd (omega arith)) (λ z. absurd (omega arith)))
-            (omega arith)
-            (own-replace (k-low now) (newRecord h) (omega arith) refl refl (y .counters .early-depth (omega arith)) (replace-record (now .fit) job count room p-used .words) refl);
-      }
+      drawn =
+          drew-turn drew room (omega arith) step refl refl
+          (afterwards (toSix (withOwn q (newRecord h)) (newRecord h)) refl (λ d z. absurd (z (y .counters .early-own (omega arith))))
+          (held-records (newRecord h) (newRecord h) (omega arith) (omega arith) (held-more (grown (k-low now) I step) (y .held)))
+          (counters-help 6 1 (q .depth) (newRecord h) (y .counters) (no-find (y .counters) (omega arith)) (omega arith) (omega arith) (omega (arith, k-low now)) (λ z. omega arith) (λ z x. absurd (omega arith)) (λ z. absurd (omega arith)))
+          (omega arith)
+          (own-replace (k-low now) (newRecord h) (omega arith) refl refl (y .counters .early-depth (omega arith)) (replace-record (now .fit) job count room p-used .words) refl))
 
     pub turn-4 : Turn hs bs i j n q (row4 b h n q .sound) (row4 b h n q .stepped) (row4 b h n q .block)
     unfolding row4 pick both
@@ -203,21 +208,15 @@ module _ {hs : ℕ → Header} {bs : ℕ → List ℕ} {i j n : ℕ} (now : Now 
             (pick s (pick r (goingOn (toSix (withOwn q (newRecord h)) (newRecord h))) (endingOf q (answer 2))) (helping (topOf b h n q) q (pendingOf (seenBy b h (touch4 h q)))))
             (pick (both s r) (replaceDrawn b h job count) b)
         go true e true f = with-sound (drawn (eqb-true _ _ e) (room-is h needs f))
-        go true e false f = quiet now (λ z. absurd (omega arith)) (λ z. absurd (omega arith)) sound (answers (answer 2) refl (λ z. absurd (z (y .counters .early-own (omega arith)))) (no-room not-find refl (y .counters .early-own (omega arith))))
-        go false e r f = quiet now (λ z. absurd (omega arith)) (λ z. absurd (omega arith)) sound (sees 4 e₄ (omega arith) not-find (q .p) p-used (topOf b h n q))
+        go true e false f = quiet now (λ z. absurd (omega arith)) (λ z. absurd (omega arith)) sound (answers (answer 2) refl (λ z. absurd (z (y .counters .early-own (omega arith)))) (no-room (no-find (y .counters) (omega arith)) refl (y .counters .early-own (omega arith))))
+        go false e r f = quiet now (λ z. absurd (omega arith)) (λ z. absurd (omega arith)) sound (sees 4 e₄ (omega arith) (no-find (y .counters) (omega arith)) (q .p) p-used (topOf b h n q))
 
   module _ (e₅ : q .point ≡ 5) where
     w₅ : Prunes k S i j mind
     w₅ = known now q y 5 e₅
 
-    not-find₅ : q .operation ≢ 1
-    not-find₅ z = omega (arith, y .counters .find z)
-
     delete : q .operation ≡ 3
-    delete = omega (arith, y .counters .op-low, y .counters .op-high, not-find₅, not-2)
-      where
-        not-2 : q .operation ≢ 2
-        not-2 z = y .counters .insert-5 z e₅
+    delete = only-delete (y .counters) (omega arith) (λ z. y .counters .insert-5 z e₅)
 
     gp-used : In (h .nodesused) (q .gp)
     gp-used = w₅ .delete .up .way .used
@@ -240,31 +239,19 @@ module _ {hs : ℕ → Header} {bs : ℕ → List ℕ} {i j n : ℕ} (now : Now 
       step₅ : Step k (S j) (tablesOf h₅ b₅)
       step₅ =
           changes (draw-prune (newRecord h) (q .gp)
-          (draws-prune {M = mind} (k-low now) (now .run) (now .first) fin (newRecord h) (w₅ .delete) (w₅ .two) (w₅ .one) same (drew-swap (now .fit) drew₅) (omega arith)
+          (draws-prune {M = mind} (k-low now) (now .run) (now .first) (y .counters .finite) (newRecord h) (w₅ .delete) (w₅ .two) (w₅ .one) same (drew-swap (now .fit) drew₅) (omega arith)
           (prune-record (now .fit) job (q .gp) (wordOf (q .pseen)) delete room gp-used)))
 
       drawn₅ : Turn hs bs i j n q true (goingOn (toNine (withOwn q (newRecord h)) (newRecord h))) b₅
       unfolding step₅ step-swaps swaps
-      drawn₅ = record {
-        is-sound = refl;
-        h′ = h₅;
-        fit′ = drew-fit (now .fit) drew₅ room;
-        k-same = refl;
-        processes-same = refl;
-        nodes-same = refl;
-        step = step₅;
-        swapper = nobody (λ z. absurd (omega arith)) (λ z. absurd (omega arith)) refl;
-        stacks = λ m u d. drew-stack (now .fit) drew₅ m u;
-        owners′ = drew-owners job drew₅ (now .owners) (y .place);
-        drawn-by = λ m a c. (let z : m ≡ newRecord h = omega arith in (subst (λ (x : ℕ). recordWord b₅ h x processField ≡ n) (sym z) (drew₅ .new processField (omega arith)), sym z, subst (λ (x : ℕ). recordWord b₅ h x operationField ≡ q .operation) (sym z) (drew₅ .new operationField (omega arith)), subst (λ (x : ℕ). recordWord b₅ h x keyField ≡ q .key) (sym z) (drew₅ .new keyField (omega arith))));
-        follows =
-            afterwards (toNine (withOwn q (newRecord h)) (newRecord h)) refl (λ d z. absurd (z (y .counters .early-own (omega arith))))
-            (held-records (newRecord h) (newRecord h) (omega arith) (omega arith) (held-more (grown (k-low now) I step₅) (y .held)))
-            (counters-help 9 (q .index) (q .depth) (newRecord h) (y .counters) not-find₅ (omega arith) (omega arith) (y .counters .index-high) (λ z. absurd (omega arith)) (λ z x. absurd (omega arith)) (λ z. absurd (omega arith)))
-            (omega arith)
-            (own-prune (k-low now) (newRecord h) (omega arith) refl refl (y .counters .early-depth (omega arith)) delete
-            (prune-record (now .fit) job (q .gp) (wordOf (q .pseen)) delete room gp-used .words));
-      }
+      drawn₅ =
+          drew-turn drew₅ room (omega arith) step₅ refl refl
+          (afterwards (toNine (withOwn q (newRecord h)) (newRecord h)) refl (λ d z. absurd (z (y .counters .early-own (omega arith))))
+          (held-records (newRecord h) (newRecord h) (omega arith) (omega arith) (held-more (grown (k-low now) I step₅) (y .held)))
+          (counters-help 9 (q .index) (q .depth) (newRecord h) (y .counters) (no-find (y .counters) (omega arith)) (omega arith) (omega arith) (y .counters .index-high) (λ z. absurd (omega arith)) (λ z x. absurd (omega arith)) (λ z. absurd (omega arith)))
+          (omega arith)
+          (own-prune (k-low now) (newRecord h) (omega arith) refl refl (y .counters .early-depth (omega arith)) delete
+          (prune-record (now .fit) job (q .gp) (wordOf (q .pseen)) delete room gp-used .words)))
 
     pub turn-5 : Turn hs bs i j n q (row5 b h n q .sound) (row5 b h n q .stepped) (row5 b h n q .block)
     unfolding row5 pick both
@@ -278,5 +265,5 @@ module _ {hs : ℕ → Header} {bs : ℕ → List ℕ} {i j n : ℕ} (now : Now 
             (pick s (pick r (goingOn (toNine (withOwn q (newRecord h)) (newRecord h))) (endingOf q (answer 2))) (helping (topOf b h n q) q (pendingOf (seenBy b h (touch5 h q)))))
             (pick (both s r) (pruneDrawn b h job (q .gp) (wordOf (q .pseen))) b)
         go true e true f = with-sound (drawn₅ (eqb-true _ _ e) (room-is h 0 f))
-        go true e false f = quiet now (λ z. absurd (omega arith)) (λ z. absurd (omega arith)) sound₅ (answers (answer 2) refl (λ z. absurd (z (y .counters .early-own (omega arith)))) (no-room not-find₅ refl (y .counters .early-own (omega arith))))
-        go false e r f = quiet now (λ z. absurd (omega arith)) (λ z. absurd (omega arith)) sound₅ (sees 5 e₅ (omega arith) not-find₅ (q .gp) gp-used (topOf b h n q))
+        go true e false f = quiet now (λ z. absurd (omega arith)) (λ z. absurd (omega arith)) sound₅ (answers (answer 2) refl (λ z. absurd (z (y .counters .early-own (omega arith)))) (no-room (no-find (y .counters) (omega arith)) refl (y .counters .early-own (omega arith))))
+        go false e r f = quiet now (λ z. absurd (omega arith)) (λ z. absurd (omega arith)) sound₅ (sees 5 e₅ (omega arith) (no-find (y .counters) (omega arith)) (q .gp) gp-used (topOf b h n q))

@@ -1,5 +1,5 @@
 -- Rows 6, 7, 12 and 13: a helper looks for a child, and swaps it.
-use Prim.Native.Nat.{ℕ, suc, _+_, _*_, _-_, _≤_, _<_}
+use Prim.Native.Nat.{ℕ, suc, _+_, _*_, _≤_, _<_}
 use mathlib.Core.Path.{_≡_, refl, sym, subst}
 use mathlib.Core.Logic.{_≢_}
 use mathlib.Core.Bool.{Bool, true, false}
@@ -32,7 +32,7 @@ use Rattle.history.proofs.Knows.{Mind, KnowsAt, Serves}
 use Rattle.link.specs.Tables.{viewOf, tablesOf, stackOf}
 use Rattle.link.proofs.Writes.{Writes, writes-node, writes-tables, child-swap}
 use Rattle.link.proofs.Checks.{below-good}
-use Rattle.link.proofs.Minds.{mindOf, CountersBy, held-more}
+use Rattle.link.proofs.Minds.{no-find, mindOf, CountersBy, held-more}
 use Rattle.link.proofs.Moments.{tables, Now, Busy, Follows, already, afterwards, Swapper, at-7, at-13, Turn, k-low, now-sound, quiet}
 use Rattle.link.proofs.Seeing.{counters-help}
 use Rattle.link.proofs.Searching.{known}
@@ -71,12 +71,9 @@ module _ {hs : ℕ → Header} {bs : ℕ → List ℕ} {i j n : ℕ} (now : Now 
 
   -- another point, the same record helped
   module _ (from : ℕ) (e : q .point ≡ from) (l : 6 ≤ from) (w : Serves k (S j) mind from) where
-    not-find : q .operation ≢ 1
-    not-find z = omega (arith, y .counters .find z)
-
     counters : (point index : ℕ) → 6 ≤ point → point ≤ 14 → index ≤ k → 1 ≤ index → point ≢ 10 → CountersBy k (withPoint (withIndex q index) point)
     counters point index a c g m t =
-        counters-help point index (q .depth) (q .own) (y .counters) not-find a c g (λ z. m) (λ z x. m) (λ z. absurd (t z))
+        counters-help point index (q .depth) (q .own) (y .counters) (no-find (y .counters) (omega arith)) a c g (λ z. m) (λ z x. m) (λ z. absurd (t z))
 
     -- and nothing is written, or one child word
     serving : (b′ : List ℕ) (s : Shared) (point index : ℕ) → point ≢ 9 → point ≢ 10 → stackOf h b′ n ≡ stackOf h b n → Serves k s mind from → Helps k s r index (q .other) point
@@ -115,7 +112,7 @@ module _ {hs : ℕ → Header} {bs : ℕ → List ℕ} {i j n : ℕ} (now : Now 
     pub turn-12 : Turn hs bs i j n q (row12 b h q .sound) (row12 b h q .stepped) (row12 b h q .block)
     unfolding row12 Marks
     turn-12 =
-        looks now q y T P 13 14 (λ z. omega arith) (λ z. omega arith) (gp-used (I .inv) r (w₁₂ .used) (w₁₂ .helps .marks .0)) (I .inv .good r (w₁₂ .used) .prune (w₁₂ .helps .marks .0) .gp-inner) i₁₂
+        looks now q y T P 13 14 (λ z. omega arith) (λ z. omega arith) (gp-used (I .inv) r (w₁₂ .used) (w₁₂ .helps .notes .marks .0)) (I .inv .good r (w₁₂ .used) .prune (w₁₂ .helps .notes .marks .0) .gp-inner) i₁₂
         (λ x. already (withPoint q 13) refl (λ d. absurd (d refl)) (y .held) (counters 12 e₁₂ (omega arith) w₁₂ 13 (q .index) (omega arith) (omega arith) (i₁₂ .high) (i₁₂ .low) (λ z. omega arith))
         (serving 12 e₁₂ (omega arith) w₁₂ b (S j) 13 (q .index) (λ z. omega arith) (λ z. omega arith) refl w₁₂ (p-found hk I r (w₁₂ .used) (w₁₂ .helps) i₁₂ x)))
         (λ x l. already (withIndex q (q .index + 1)) refl (λ d. absurd (d refl)) (y .held)
@@ -222,14 +219,14 @@ module _ {hs : ℕ → Header} {bs : ℕ → List ℕ} {i j n : ℕ} (now : Now 
 
     kind : recordWord b h r 0 ≡ 2
     unfolding Marks
-    kind = w₁₃ .helps .marks .0
+    kind = w₁₃ .helps .notes .marks .0
 
     marked : viewOf h b .pend P ≡ 4 * r + 3
     unfolding Marks
-    marked = w₁₃ .helps .marks .1
+    marked = w₁₃ .helps .notes .marks .1
 
     one : (m : ℕ) × In k m × (viewOf h b .child P m ≡ q .other) × (viewOf h b .tag (q .other) ≢ 0) × (q .other ≢ recordWord b h r lField)
-    one = always-one hk I r (w₁₃ .used) (w₁₃ .helps .marks) (w₁₃ .helps .noted)
+    one = always-one hk I r (w₁₃ .used) (w₁₃ .helps .notes .marks) (w₁₃ .helps .notes .noted)
 
     u₁₃ : In (h .nodesused) T
     u₁₃ = gp-used (I .inv) r (w₁₃ .used) kind

@@ -1,5 +1,5 @@
 -- Rows 9 and 11: the mark or a push, and the sibling noted.
-use Prim.Native.Nat.{ℕ, suc, _+_, _*_, _-_, _≤_, _<_}
+use Prim.Native.Nat.{ℕ, suc, _+_, _*_, _≤_, _<_}
 use mathlib.Core.Path.{_≡_, refl, sym, ap, _∙_, subst}
 use mathlib.Core.Logic.{_≢_, _⊎_, inl, inr}
 use mathlib.Core.Bool.{Bool, true, false, not}
@@ -39,7 +39,7 @@ use Rattle.history.proofs.Serving as serving
 use Rattle.link.specs.Tables.{viewOf, tablesOf, stackOf}
 use Rattle.link.proofs.Writes.{Writes, writes-none, writes-node, writes-stack, writes-tables, pend-swap, tables-same, stack-same, stack-over-stack, stack-new}
 use Rattle.link.proofs.Checks.{word-names, pending-good, below-good}
-use Rattle.link.proofs.Minds.{mindOf, CountersBy, held-more, stack-room}
+use Rattle.link.proofs.Minds.{no-find, mindOf, CountersBy, held-more, stack-room}
 use Rattle.link.proofs.Moments.{tables, Now, Busy, Follows, already, afterwards, nobody, Turn, k-low, now-sound, quiet}
 use Rattle.link.proofs.Seeing.{counters-help, held-other, Loose, free, below, helps-on}
 use Rattle.link.proofs.Searching.{known}
@@ -81,9 +81,6 @@ module _ {hs : ℕ → Header} {bs : ℕ → List ℕ} {i j n : ℕ} (now : Now 
     kind : recordWord b h r 0 ≡ 2
     kind = w₉ .helps
 
-    busy : q .operation ≢ 1
-    busy z = omega (arith, y .counters .find z)
-
     u₉ : In (h .nodesused) P
     u₉ = p-used (I .inv) r (w₉ .used)
 
@@ -92,7 +89,7 @@ module _ {hs : ℕ → Header} {bs : ℕ → List ℕ} {i j n : ℕ} (now : Now 
 
     eleven : CountersBy k (toEleven q r)
     eleven =
-        counters-help 11 1 (q .depth) (q .own) (y .counters) busy (omega arith) (omega arith) (omega (arith, hk)) (λ z. absurd (omega arith)) (λ z x. omega arith) (λ z. absurd (omega arith))
+        counters-help 11 1 (q .depth) (q .own) (y .counters) (no-find (y .counters) (omega arith)) (omega arith) (omega arith) (omega (arith, hk)) (λ z. absurd (omega arith)) (λ z x. omega arith) (λ z. absurd (omega arith))
 
     -- the mark is made
     abbrev marked-block : List ℕ
@@ -181,8 +178,8 @@ module _ {hs : ℕ → Header} {bs : ℕ → List ℕ} {i j n : ℕ} (now : Now 
       pushes : Follows hs bs i j n h pushed-block q (helping r deeper (pendingOf seen))
       pushes =
           helps-on n now q deeper pushed-block r (y .since)
-          (rw e₉ (counters-help 9 (q .index) (q .depth + 1) (q .own) (y .counters) busy (omega arith) (omega arith) (y .counters .index-high) (λ z. absurd (omega arith)) (λ z x. absurd (omega arith)) (λ z. omega arith)))
-          (y .held) busy (serving.pushed (mindOf h pushed-block n deeper) w₉ failed (add-one (q .depth)) same new) (loose (w₉ .own))
+          (rw e₉ (counters-help 9 (q .index) (q .depth + 1) (q .own) (y .counters) (no-find (y .counters) (omega arith)) (omega arith) (omega arith) (y .counters .index-high) (λ z. absurd (omega arith)) (λ z x. absurd (omega arith)) (λ z. omega arith)))
+          (y .held) (no-find (y .counters) (omega arith)) (serving.pushed (mindOf h pushed-block n deeper) w₉ failed (add-one (q .depth)) same new) (loose (w₉ .own))
           (λ d z. sym (subst (λ (m : ℕ). stackOf h pushed-block n m ≡ r) (is d z) new)) refl (λ z. absurd (omega arith)) (read-now I u₉)
           (λ m z. serving.met-there (mindOf h pushed-block n deeper) w₉ failed (add-one (q .depth)) same new z)
         where
@@ -229,9 +226,6 @@ module _ {hs : ℕ → Header} {bs : ℕ → List ℕ} {i j n : ℕ} (now : Now 
     w₁₁ : Serves k (S j) mind 11
     w₁₁ = known now q y 11 e₁₁
 
-    busy₁₁ : q .operation ≢ 1
-    busy₁₁ z = omega (arith, y .counters .find z)
-
     u₁₁ : In (h .nodesused) P
     u₁₁ = p-used (I .inv) r (w₁₁ .used)
 
@@ -262,12 +256,12 @@ module _ {hs : ℕ → Header} {bs : ℕ → List ℕ} {i j n : ℕ} (now : Now 
           go : (t : Bool) → ltb (q .index) k ≡ t → Follows hs bs i j n h b q (pick t (goingOn (withIndex (withOther q other) (q .index + 1))) (goingOn (toTwelve (withOther q other))))
           go true x =
               already (withIndex (withOther q other) (q .index + 1)) refl (λ d. absurd (d refl)) (held-other other g (y .held))
-              (rw e₁₁ (counters-help 11 (q .index + 1) (q .depth) (q .own) (y .counters) busy₁₁ (omega arith) (omega arith) (omega (arith, ltb-true (q .index) k x)) (λ z. absurd (omega arith)) (λ z v. omega arith) (λ z. absurd (omega arith))))
+              (rw e₁₁ (counters-help 11 (q .index + 1) (q .depth) (q .own) (y .counters) (no-find (y .counters) (omega arith)) (omega arith) (omega arith) (omega (arith, ltb-true (q .index) k x)) (λ z. absurd (omega arith)) (λ z v. omega arith) (λ z. absurd (omega arith))))
               (subst (λ (m : ℕ). KnowsAt k S i j (mindOf h b n (withIndex (withOther q other) (q .index + 1))) m) (sym e₁₁)
               (goes-on h b b n 11 11 q (withIndex (withOther q other) (q .index + 1)) refl refl refl refl refl refl (λ z. omega arith) (λ z. omega arith) w₁₁ (rw (add-one (q .index)) w)))
           go false x =
               already (toTwelve (withOther q other)) refl (λ d. absurd (d refl)) (held-other other g (y .held))
-              (counters-help 12 1 (q .depth) (q .own) (y .counters) busy₁₁ (omega arith) (omega arith) (omega (arith, hk)) (λ z. absurd (omega arith)) (λ z v. omega arith) (λ z. absurd (omega arith)))
+              (counters-help 12 1 (q .depth) (q .own) (y .counters) (no-find (y .counters) (omega arith)) (omega arith) (omega arith) (omega (arith, hk)) (λ z. absurd (omega arith)) (λ z v. omega arith) (λ z. absurd (omega arith)))
               (goes-on h b b n 11 12 q (toTwelve (withOther q other)) refl refl refl refl refl refl (λ z. omega arith) (λ z. omega arith) w₁₁
               (all-noted hk I r (w₁₁ .used) (subst (λ (m : ℕ). Notes k (S j) r (suc m) other) (last (ltb-false (q .index) k x)) w)))
             where

@@ -93,6 +93,13 @@ pub record Counters (k operation key point index mask depth own : ℕ) : Type 0 
 abbrev pub CountersBy : ℕ → Process → Type 0
 CountersBy k q = Counters k (q .operation) (q .key) (q .point) (q .index) (q .mask) (q .depth) (q .own)
 
+-- past 2 there is no find
+pub no-find : {k operation key point index mask depth own : ℕ} → Counters k operation key point index mask depth own → 2 < point → operation ≢ 1
+no-find c l z = omega (arith, c .find z)
+
+pub only-delete : {k operation key point index mask depth own : ℕ} → Counters k operation key point index mask depth own → 2 < point → operation ≢ 2 → operation ≡ 3
+only-delete c l d = omega (arith, c .op-low, c .op-high, no-find c l)
+
 -- and nothing that it uses at its point is missing
 pub record Uses (depth-room point gp l index helped other depth : ℕ) : Type 0 where
   pub room : depth ≤ depth-room
@@ -223,7 +230,7 @@ module _ {h : Header} {b : List ℕ} (q : Process) (fit : Fit h b) (I : Sound (h
   stack-room {f} {d} st = rw (← depth-is) (stack-depth f d (h .nodes) (fit .limits .numbers .k-low) I (fit .limits .used-high) st)
 
   other-at-13 : (r : ℕ) → In (h .recordsused) r → SwapsP (h .k) (tablesOf h b) r (q .index) (q .other) → q .other ≢ 0
-  other-at-13 r i w = go (always-one (fit .limits .numbers .k-low) I r i (w .marks) (w .noted))
+  other-at-13 r i w = go (always-one (fit .limits .numbers .k-low) I r i (w .notes .marks) (w .notes .noted))
     where
       go : (j : ℕ) × In (h .k) j × (viewOf h b .child (tablesOf h b .rec r .p) j ≡ q .other) × (viewOf h b .tag (q .other) ≢ 0) × (q .other ≢ tablesOf h b .rec r .l) → q .other ≢ 0
       go z e = omega (arith, z .2, I .inv .shape .above (tablesOf h b .rec r .p) (z .0) (p-used (I .inv) r i) (I .inv .good r i .inner) (z .1))
@@ -253,8 +260,8 @@ helps-kind k s r index other (suc (suc (suc (suc (suc (suc (suc (suc zero)))))))
 helps-kind k s r index other (suc (suc (suc (suc (suc (suc (suc (suc (suc zero))))))))) w = w
 helps-kind k s r index other (suc (suc (suc (suc (suc (suc (suc (suc (suc (suc zero)))))))))) w = w .prune
 helps-kind k s r index other (suc (suc (suc (suc (suc (suc (suc (suc (suc (suc (suc zero))))))))))) w = w .marks .0
-helps-kind k s r index other (suc (suc (suc (suc (suc (suc (suc (suc (suc (suc (suc (suc zero)))))))))))) w = w .marks .0
-helps-kind k s r index other (suc (suc (suc (suc (suc (suc (suc (suc (suc (suc (suc (suc (suc zero))))))))))))) w = w .marks .0
+helps-kind k s r index other (suc (suc (suc (suc (suc (suc (suc (suc (suc (suc (suc (suc zero)))))))))))) w = w .notes .marks .0
+helps-kind k s r index other (suc (suc (suc (suc (suc (suc (suc (suc (suc (suc (suc (suc (suc zero))))))))))))) w = w .notes .marks .0
 helps-kind k s r index other (suc (suc (suc (suc (suc (suc (suc (suc (suc (suc (suc (suc (suc (suc zero)))))))))))))) w = w .is
 helps-kind k s r index other (suc (suc (suc (suc (suc (suc (suc (suc (suc (suc (suc (suc (suc (suc (suc m))))))))))))))) w = absurd w
 

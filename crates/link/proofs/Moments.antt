@@ -1,5 +1,5 @@
 -- The state at each moment of a run, what all processes share of it, what a busy one has, and what a row is to give.
-use Prim.Native.Nat.{ℕ, _*_, _-_, _^_, _≤_, _<_}
+use Prim.Native.Nat.{ℕ, _*_, _^_, _≤_, _<_}
 use mathlib.Core.Path.{_≡_, refl}
 use mathlib.Core.Logic.{_≢_, inl}
 use mathlib.Core.Bool.{Bool, true}
@@ -77,20 +77,24 @@ pub data Swapper (hs : ℕ → Header) (bs : ℕ → List ℕ) (j : ℕ) (q : Pr
   nobody : (q .point ≡ 7 → childWord (bs j) (hs j) (helpedP (bs j) (hs j) q) (q .index) ≢ helpedL (bs j) (hs j) q)
       → (q .point ≡ 13 → childWord (bs j) (hs j) (helpedThird (bs j) (hs j) q) (q .index) ≢ helpedP (bs j) (hs j) q) → step-swaps (hs j .k) c ≡ 0 → Swapper hs bs j q s′ c
 
--- what a row gives: it is sound; its block fits a header; the step of the history; nobody else's stack has changed; what follows
-pub record Turn (hs : ℕ → Header) (bs : ℕ → List ℕ) (i j n : ℕ) (q : Process) (sound : Bool) (stepped : Stepped) (b′ : List ℕ) : Type 0 where
-  pub is-sound : sound ≡ true
-  pub h′ : Header
+-- what a turn of process n is for all of them: its block fits a header; the step of the history; nobody else's stack has changed; whose a new record is
+pub record Shift (hs : ℕ → Header) (bs : ℕ → List ℕ) (j n : ℕ) (h′ : Header) (b′ : List ℕ) : Type 0 where
   pub fit′ : Fit h′ b′
   pub k-same : h′ .k ≡ hs j .k
   pub processes-same : h′ .processes ≡ hs j .processes
-  pub nodes-same : h′ .nodes ≡ hs j .nodes
   pub step : Step (hs j .k) (tables hs bs j) (tablesOf h′ b′)
-  pub swapper : Swapper hs bs j q (tablesOf h′ b′) step
   pub stacks : (m : ℕ) → In (hs j .processes) m → m ≢ n → stackOf h′ b′ m ≡ stackOf (hs j) (bs j) m
   pub owners′ : (r : ℕ) → In (h′ .recordsused) r → In (h′ .processes) (recordWord b′ h′ r processField)
-  pub drawn-by : (r : ℕ) → hs j .recordsused < r → r ≤ h′ .recordsused →
-      (recordWord b′ h′ r processField ≡ n) × (stepped .process .own ≡ r) × (recordWord b′ h′ r operationField ≡ q .operation) × (recordWord b′ h′ r keyField ≡ q .key)
+  pub drawn-by : (r : ℕ) → hs j .recordsused < r → r ≤ h′ .recordsused → recordWord b′ h′ r processField ≡ n
+
+-- what a row gives: it is sound; what it is for all; whose child swap it is; what a new record is to its process; what follows
+pub record Turn (hs : ℕ → Header) (bs : ℕ → List ℕ) (i j n : ℕ) (q : Process) (sound : Bool) (stepped : Stepped) (b′ : List ℕ) : Type 0 where
+  pub is-sound : sound ≡ true
+  pub h′ : Header
+  pub shift : Shift hs bs j n h′ b′
+  pub swapper : Swapper hs bs j q (tablesOf h′ b′) (shift .step)
+  pub drawn-as : (r : ℕ) → hs j .recordsused < r → r ≤ h′ .recordsused →
+      (stepped .process .own ≡ r) × (recordWord b′ h′ r operationField ≡ q .operation) × (recordWord b′ h′ r keyField ≡ q .key)
   pub follows : Follows hs bs i j n h′ b′ q stepped
 
 module _ {hs : ℕ → Header} {bs : ℕ → List ℕ} {j : ℕ} (now : Now hs bs j) where
@@ -108,23 +112,28 @@ module _ {hs : ℕ → Header} {bs : ℕ → List ℕ} {j : ℕ} (now : Now hs b
   unfolding same-self step-swaps
   same-none = refl
 
+  pub shift-self : (n : ℕ) → Shift hs bs j n (hs j) (bs j)
+  shift-self n = record {
+    fit′ = now .fit;
+    k-same = refl;
+    processes-same = refl;
+    step = same-self;
+    stacks = λ m i d. refl;
+    owners′ = now .owners;
+    drawn-by = λ r a c. absurd (omega arith);
+  }
+
   pub quiet : {i n : ℕ} {q : Process} {sound : Bool} {stepped : Stepped}
       → (q .point ≡ 7 → childWord (bs j) (hs j) (helpedP (bs j) (hs j) q) (q .index) ≢ helpedL (bs j) (hs j) q)
       → (q .point ≡ 13 → childWord (bs j) (hs j) (helpedThird (bs j) (hs j) q) (q .index) ≢ helpedP (bs j) (hs j) q) → sound ≡ true
       → Follows hs bs i j n (hs j) (bs j) q stepped → Turn hs bs i j n q sound stepped (bs j)
-  unfolding same-self step-swaps
-  quiet a c e f = record {
+  unfolding same-self shift-self step-swaps
+  quiet {n = n} a c e f = record {
     is-sound = e;
     h′ = hs j;
-    fit′ = now .fit;
-    k-same = refl;
-    processes-same = refl;
-    nodes-same = refl;
-    step = same-self;
+    shift = shift-self n;
     swapper = nobody a c refl;
-    stacks = λ m i d. refl;
-    owners′ = now .owners;
-    drawn-by = λ r a c. absurd (omega arith);
+    drawn-as = λ r a c. absurd (omega arith);
     follows = f;
   }
 

@@ -1,5 +1,5 @@
 -- Every record in use comes from an operation: which step drew it, and the start that the step goes back to.
-use Prim.Native.Nat.{ℕ, zero, suc, _+_, _-_, _≤_, _<_}
+use Prim.Native.Nat.{ℕ, zero, suc, _+_, _≤_, _<_}
 use mathlib.Core.Path.{_≡_, ap, _∙_}
 use mathlib.Core.Logic.{_≢_}
 use mathlib.Core.Bool.{true}
@@ -69,10 +69,10 @@ module _ {s : State} {es : List Event} (reached : Reached s es) where
             busy = λ x. omega (arith, b .counters .op-low);
             next = d .next;
             counted = d .drawn;
-            process = ap (λ (x : Desc). x .process) later ∙ by .0;
-            operation = ap (λ (x : Desc). x .operation) later ∙ by .2;
-            key = ap (λ (x : Desc). x .key) later ∙ by .3;
-            own = ap (λ (x : Process). x .own) (taken-own (good reached (d .when)) n row-block row-process (state-is (good reached (d .when)) n v z b e) v) ∙ by .1;
+            process = ap (λ (x : Desc). x .process) later ∙ whose;
+            operation = ap (λ (x : Desc). x .operation) later ∙ by .1;
+            key = ap (λ (x : Desc). x .key) later ∙ by .2;
+            own = ap (λ (x : Process). x .own) (taken-own (good reached (d .when)) n row-block row-process (state-is (good reached (d .when)) n v z b e) v) ∙ by .0;
           }
             where
               row-block : List ℕ
@@ -84,11 +84,13 @@ module _ {s : State} {es : List Event} (reached : Reached s es) where
               used-is : headerAt s es (suc (d .when)) .recordsused ≡ its-turn (good reached (d .when)) n v z b e .h′ .recordsused
               used-is = ap (λ (x : Header). x .recordsused) (header-is (good reached (d .when)) n v z b e)
 
-              by : (descOf (its-turn (good reached (d .when)) n v z b e .h′) (rowOf (blockAt s es (d .when)) (headerAt s es (d .when)) n (taken (W (d .when)) n) .block) r .process ≡ n)
-                  × (rowOf (blockAt s es (d .when)) (headerAt s es (d .when)) n (taken (W (d .when)) n) .stepped .process .own ≡ r)
+              whose : descOf (its-turn (good reached (d .when)) n v z b e .h′) (rowOf (blockAt s es (d .when)) (headerAt s es (d .when)) n (taken (W (d .when)) n) .block) r .process ≡ n
+              whose = its-turn (good reached (d .when)) n v z b e .shift .drawn-by r (omega (arith, d .next)) (omega (arith, d .drawn, used-is))
+
+              by : (rowOf (blockAt s es (d .when)) (headerAt s es (d .when)) n (taken (W (d .when)) n) .stepped .process .own ≡ r)
                   × (descOf (its-turn (good reached (d .when)) n v z b e .h′) (rowOf (blockAt s es (d .when)) (headerAt s es (d .when)) n (taken (W (d .when)) n) .block) r .operation ≡ taken (W (d .when)) n .operation)
                   × (descOf (its-turn (good reached (d .when)) n v z b e .h′) (rowOf (blockAt s es (d .when)) (headerAt s es (d .when)) n (taken (W (d .when)) n) .block) r .key ≡ taken (W (d .when)) n .key)
-              by = its-turn (good reached (d .when)) n v z b e .drawn-by r (omega (arith, d .next)) (omega (arith, d .drawn, used-is))
+              by = its-turn (good reached (d .when)) n v z b e .drawn-as r (omega (arith, d .next)) (omega (arith, d .drawn, used-is))
 
               later : S m .rec r ≡ descOf (its-turn (good reached (d .when)) n v z b e .h′) (rowOf (blockAt s es (d .when)) (headerAt s es (d .when)) n (taken (W (d .when)) n) .block) r
               later =

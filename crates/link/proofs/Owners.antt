@@ -1,5 +1,5 @@
 -- A record that stands is the own record of a busy process: so when all are idle, every node of the tree is clean.
-use Prim.Native.Nat.{ℕ, zero, suc, _*_, _-_, _≤_, _<_}
+use Prim.Native.Nat.{ℕ, zero, suc, _*_, _≤_, _<_}
 use mathlib.Core.Path.{_≡_, sym, ap, _∙_, subst}
 use mathlib.Core.Logic.{_≢_}
 use mathlib.Core.List.{List}
@@ -94,13 +94,13 @@ module _ {s : State} {es : List Event} (reached : Reached s es) where
         used-is = ap (λ (x : Header). x .recordsused) (header-is (good reached m) n v z b e)
 
         is : row-stepped .process .own ≡ r
-        is = its-turn (good reached m) n v z b e .drawn-by r l (omega (arith, used-is)) .1
+        is = its-turn (good reached m) n v z b e .drawn-as r l (omega (arith, used-is)) .0
 
         owner : S (suc m) .rec r .process ≡ n
         owner =
             ap (λ (x : List ℕ). tablesOf (hs (suc m)) x .rec r .process) (block-is (good reached m) n v z b e)
             ∙ ap (λ (x : Header). tablesOf x row-block .rec r .process) (header-is (good reached m) n v z b e)
-            ∙ its-turn (good reached m) n v z b e .drawn-by r l (omega (arith, used-is)) .0
+            ∙ its-turn (good reached m) n v z b e .shift .drawn-by r l (omega (arith, used-is))
 
         on : (q′ : Process) → row-stepped .process .operation ≡ q′ .operation → 1 ≤ q′ .operation → Owned s es (suc m) n r
         on q′ c x = record {

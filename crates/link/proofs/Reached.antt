@@ -28,10 +28,10 @@ use Rattle.link.specs.Tables.{tablesOf}
 use Rattle.link.specs.Events.{Event, start, step, State, taken, startIn, stepIn, after, eventAt, stateAt, blockAt, headerAt, Proper, isAccepted, starts, sinceAt}
 use Rattle.link.specs.Swaps.{Swapping, seven, thirteen, ChildSwap}
 use Rattle.link.proofs.Minds.{mindOf}
-use Rattle.link.proofs.Moments.{tables, Now, Busy, Swapper, at-7, at-13, nobody, Turn, same-self, same-none, k-low, held-root, descends-root, counters-root}
+use Rattle.link.proofs.Moments.{tables, Now, Busy, Swapper, at-7, at-13, nobody, Shift, Turn, shift-self, same-self, same-none, k-low, held-root, descends-root, counters-root}
 use Rattle.link.proofs.Searching.{known}
 use Rattle.link.proofs.Stepping.{turn, step-sound}
-use Rattle.link.proofs.Carry.{Shift, turn-shift, shift-self, shift-to, follows-to, now-next, place-back, busy-next, busy-own}
+use Rattle.link.proofs.Carry.{shift-to, follows-to, now-next, place-back, busy-next, busy-own}
 use Rattle.link.proofs.Calls as calls
 use Rattle.link.proofs.Calls.{putBack, stepRefusedIn, stepDoneIn, startDoneIn, stepped-to, started-to}
 
@@ -64,6 +64,24 @@ pub since-stays : (s : State) (es : List Event) (m n : ℕ) (e : Event) → even
 unfolding pick
 since-stays s es m n e z f = since-next s es m n e false z f
 
+-- whose child swap the step from moment m is, in the words of the events
+pub data Kind (s : State) (es : List Event) (m k : ℕ) (c : Step k (tables (headerAt s es) (blockAt s es) m) (tables (headerAt s es) (blockAt s es) (suc m))) : Type 0 where
+  no-swap : step-swaps k c ≡ 0 → ((r : ℕ) → ¬ ChildSwap s es m r) → Kind s es m k c
+  swap-of : (r : ℕ) → 1 ≤ r → ChildSwap s es m r → step-swaps k c ≡ r → Kind s es m k c
+
+-- an event as a step of the history
+pub record Move (s : State) (es : List Event) (m : ℕ) : Type 0 where
+  pub k-same : headerAt s es (suc m) .k ≡ headerAt s es m .k
+  pub processes-same : headerAt s es (suc m) .processes ≡ headerAt s es m .processes
+  pub step : Step (headerAt s es m .k) (tables (headerAt s es) (blockAt s es) m) (tables (headerAt s es) (blockAt s es) (suc m))
+  pub kind : Kind s es m (headerAt s es m .k) step
+
+pub step-one : (n p : ℕ) → step n ≡ step p → n ≡ p
+step-one n p e = cc
+
+start-step : (n operation key p : ℕ) → start n operation key ≡ step p → ⊥
+start-step n operation key p e = let z : _≡_ {A = ℕ} 0 1 = cc in omega arith
+
 module _ {s : State} {es : List Event} {m : ℕ} (good : Good s es m) where
   abbrev hs : ℕ → Header
   hs = headerAt s es
@@ -91,7 +109,22 @@ module _ {s : State} {es : List Event} {m : ℕ} (good : Good s es m) where
   }
     where
       sh : Shift hs bs m 0 (hs (suc m)) (bs (suc m))
-      sh = shift-to {hs = hs} {bs = bs} {j = m} {h′ = hs m} {b′ = bs m} (ap (λ (x : State). headerOf (x .block)) e) (ap (λ (x : State). x .block) e) (shift-self 0 (good .now))
+      sh = shift-to {hs = hs} {bs = bs} {j = m} {h′ = hs m} {b′ = bs m} (ap (λ (x : State). headerOf (x .block)) e) (ap (λ (x : State). x .block) e) (shift-self (good .now) 0)
+
+  -- nothing is written
+  rested : bs (suc m) ≡ bs m → ((r : ℕ) → ¬ ChildSwap s es m r) → Move s es m
+  rested e f = put (subst (λ (c : List ℕ). (x : Step (hs m .k) (tables hs bs m) (tablesOf (headerOf c) c)) × (step-swaps (hs m .k) x ≡ 0)) (sym e) (same-self (good .now), none))
+    where
+      none : step-swaps (hs m .k) (same-self (good .now)) ≡ 0
+      none = same-none (good .now)
+
+      put : (x : Step (hs m .k) (tables hs bs m) (tables hs bs (suc m))) × (step-swaps (hs m .k) x ≡ 0) → Move s es m
+      put x = record {
+        k-same = ap (λ (c : List ℕ). headerOf c .k) e;
+        processes-same = ap (λ (c : List ℕ). headerOf c .processes) e;
+        step = x .0;
+        kind = no-swap (x .1) f;
+      }
 
   -- the row with one record put back
   module _ (n : ℕ) (b′ : List ℕ) (q′ : Process) (e : W (suc m) ≡ putBack (W m) b′ n q′) (u : In (hs m .processes) n) where
@@ -125,10 +158,10 @@ module _ {s : State} {es : List Event} {m : ℕ} (good : Good s es m) where
     block-is = ap (λ (x : State). x .block) state-is
 
     pub header-is : hs (suc m) ≡ its-turn .h′
-    header-is = ap headerOf block-is ∙ its-turn .fit′ .header
+    header-is = ap headerOf block-is ∙ its-turn .shift .fit′ .header
 
     pub its-shift : Shift hs bs m n (hs (suc m)) (bs (suc m))
-    its-shift = shift-to header-is block-is (turn-shift its-turn)
+    its-shift = shift-to header-is block-is (its-turn .shift)
 
     steps : Good s es (suc m)
     steps = record {
@@ -156,6 +189,40 @@ module _ {s : State} {es : List Event} {m : ℕ} (good : Good s es m) where
             doing-next its-shift p d (taken-other n (rowOf (bs m) (hs m) n q .block) (stepped .process) state-is u p (v .low) d) (since-same p)
             (good .each p (place-back (good .now) its-shift v))
 
+    -- and whose child swap it is
+    both-parts : (c : Step (hs m .k) (tables hs bs m) (tables hs bs (suc m))) × Swapper hs bs m q (tables hs bs (suc m)) c
+    both-parts =
+        subst (λ (x : List ℕ). (c : Step (hs m .k) (tables hs bs m) (tablesOf (hs (suc m)) x)) × Swapper hs bs m q (tablesOf (hs (suc m)) x) c) (sym (block-is))
+        (subst (λ (g : Header). (c : Step (hs m .k) (tables hs bs m) (tablesOf g (rowOf (bs m) (hs m) n q .block)))
+        × Swapper hs bs m q (tablesOf g (rowOf (bs m) (hs m) n q .block)) c) (sym (header-is))
+        (its-turn .shift .step, its-turn .swapper))
+
+    swaps-by : Swapping (bs m) (hs m) q → ChildSwap s es m (q .helped)
+    swaps-by w = record { process = n; event = z; exists = u; busy = λ x. omega (arith, y .counters .op-low); helps = refl; swapping = w }
+
+    moved : Move s es m
+    moved = record {
+      k-same = its-shift .k-same;
+      processes-same = its-shift .processes-same;
+      step = both-parts .0;
+      kind = go (both-parts .1);
+    }
+      where
+        nobody-swaps : (q .point ≡ 7 → childWord (bs m) (hs m) (helpedP (bs m) (hs m) q) (q .index) ≢ helpedL (bs m) (hs m) q)
+            → (q .point ≡ 13 → childWord (bs m) (hs m) (helpedThird (bs m) (hs m) q) (q .index) ≢ helpedP (bs m) (hs m) q)
+            → (r : ℕ) → ¬ ChildSwap s es m r
+        nobody-swaps a c r w =
+            no (subst (λ (p : ℕ). Swapping (bs m) (hs m) (taken (W m) p)) (sym (step-one n (w .process) (sym z ∙ w .event))) (w .swapping))
+          where
+            no : Swapping (bs m) (hs m) q → ⊥
+            no (seven p x) = a p x
+            no (thirteen p x) = c p x
+
+        go : Swapper hs bs m q (tables hs bs (suc m)) (both-parts .0) → Kind s es m (hs m .k) (both-parts .0)
+        go (at-7 p x v) = swap-of (q .helped) (known (good .now) q y 7 p .used .low) (swaps-by (seven p x)) v
+        go (at-13 p x v) = swap-of (q .helped) (known (good .now) q y 13 p .used .low) (swaps-by (thirteen p x)) v
+        go (nobody a c v) = no-swap v (nobody-swaps a c)
+
   -- a start that is accepted
   module _ (n operation key : ℕ) (u : In (hs m .processes) n) (z : eventAt es m ≡ start n operation key) (low : 1 ≤ operation) (high : operation ≤ 3) (fin : key < infinity)
       (e : startIn (W m) n operation key ≡ startDoneIn (W m) n operation key) where
@@ -164,7 +231,7 @@ module _ {s : State} {es : List Event} {m : ℕ} (good : Good s es m) where
 
     pub same-shift : Shift hs bs m n (hs (suc m)) (bs (suc m))
     same-shift =
-        shift-to {hs = hs} {bs = bs} {j = m} {h′ = hs m} {b′ = bs m} (ap (λ (x : State). headerOf (x .block)) begun) (ap (λ (x : State). x .block) begun) (shift-self n (good .now))
+        shift-to {hs = hs} {bs = bs} {j = m} {h′ = hs m} {b′ = bs m} (ap (λ (x : State). headerOf (x .block)) begun) (ap (λ (x : State). x .block) begun) (shift-self (good .now) n)
 
     begins : Good s es (suc m)
     unfolding pick both
@@ -228,100 +295,19 @@ module _ {s : State} {es : List Event} {m : ℕ} (good : Good s es m) where
   pub good-next : Proper (eventAt es m) → Good s es (suc m)
   good-next x = go-on (eventAt es m) refl x
 
--- whose child swap the step from moment m is, in the words of the events
-pub data Kind (s : State) (es : List Event) (m : ℕ) (c : Step (headerAt s es m .k) (tables (headerAt s es) (blockAt s es) m) (tables (headerAt s es) (blockAt s es) (suc m))) : Type 0 where
-  no-swap : step-swaps (headerAt s es m .k) c ≡ 0 → ((r : ℕ) → ¬ ChildSwap s es m r) → Kind s es m c
-  swap-of : (r : ℕ) → 1 ≤ r → ChildSwap s es m r → step-swaps (headerAt s es m .k) c ≡ r → Kind s es m c
-
--- an event as a step of the history
-pub record Move (s : State) (es : List Event) (m : ℕ) : Type 0 where
-  pub k-same : headerAt s es (suc m) .k ≡ headerAt s es m .k
-  pub processes-same : headerAt s es (suc m) .processes ≡ headerAt s es m .processes
-  pub step : Step (headerAt s es m .k) (tables (headerAt s es) (blockAt s es) m) (tables (headerAt s es) (blockAt s es) (suc m))
-  pub kind : Kind s es m step
-
-pub step-one : (n p : ℕ) → step n ≡ step p → n ≡ p
-step-one n p e = cc
-
-start-step : (n operation key p : ℕ) → start n operation key ≡ step p → ⊥
-start-step n operation key p e = let z : _≡_ {A = ℕ} 0 1 = cc in omega arith
-
-module _ {s : State} {es : List Event} {m : ℕ} (good : Good s es m) where
-  abbrev hs₁ : ℕ → Header
-  hs₁ = headerAt s es
-
-  abbrev bs₁ : ℕ → List ℕ
-  bs₁ = blockAt s es
-
-  abbrev W₁ : ℕ → State
-  W₁ = stateAt s es
-
-  -- nothing is written
-  rested : bs₁ (suc m) ≡ bs₁ m → ((r : ℕ) → ¬ ChildSwap s es m r) → Move s es m
-  rested e f = put (subst (λ (c : List ℕ). (x : Step (hs₁ m .k) (tables hs₁ bs₁ m) (tablesOf (headerOf c) c)) × (step-swaps (hs₁ m .k) x ≡ 0)) (sym e) (same-self (good .now), none))
-    where
-      none : step-swaps (hs₁ m .k) (same-self (good .now)) ≡ 0
-      none = same-none (good .now)
-
-      put : (x : Step (hs₁ m .k) (tables hs₁ bs₁ m) (tables hs₁ bs₁ (suc m))) × (step-swaps (hs₁ m .k) x ≡ 0) → Move s es m
-      put x = record {
-        k-same = ap (λ (c : List ℕ). headerOf c .k) e;
-        processes-same = ap (λ (c : List ℕ). headerOf c .processes) e;
-        step = x .0;
-        kind = no-swap (x .1) f;
-      }
-
-  module _ (n : ℕ) (u : In (hs₁ m .processes) n) (d : taken (W₁ m) n .operation ≢ 0) (z : eventAt es m ≡ step n)
-      (y : Busy hs₁ bs₁ (sinceAt s es n m) m n (taken (W₁ m) n)) (e : stepIn (W₁ m) n ≡ stepDoneIn (W₁ m) n) where
-    abbrev q₁ : Process
-    q₁ = taken (W₁ m) n
-
-    both-parts : (c : Step (hs₁ m .k) (tables hs₁ bs₁ m) (tables hs₁ bs₁ (suc m))) × Swapper hs₁ bs₁ m q₁ (tables hs₁ bs₁ (suc m)) c
-    both-parts =
-        subst (λ (x : List ℕ). (c : Step (hs₁ m .k) (tables hs₁ bs₁ m) (tablesOf (hs₁ (suc m)) x)) × Swapper hs₁ bs₁ m q₁ (tablesOf (hs₁ (suc m)) x) c) (sym (block-is good n u z y e))
-        (subst (λ (g : Header). (c : Step (hs₁ m .k) (tables hs₁ bs₁ m) (tablesOf g (rowOf (bs₁ m) (hs₁ m) n q₁ .block)))
-        × Swapper hs₁ bs₁ m q₁ (tablesOf g (rowOf (bs₁ m) (hs₁ m) n q₁ .block)) c) (sym (header-is good n u z y e))
-        (its-turn good n u z y e .step, its-turn good n u z y e .swapper))
-
-    swaps-by : Swapping (bs₁ m) (hs₁ m) q₁ → ChildSwap s es m (q₁ .helped)
-    swaps-by w = record { process = n; event = z; exists = u; busy = d; helps = refl; swapping = w }
-
-    moved : Move s es m
-    moved = record {
-      k-same = its-shift good n u z y e .k-same;
-      processes-same = its-shift good n u z y e .processes-same;
-      step = both-parts .0;
-      kind = go (both-parts .1);
-    }
-      where
-        nobody-swaps : (q₁ .point ≡ 7 → childWord (bs₁ m) (hs₁ m) (helpedP (bs₁ m) (hs₁ m) q₁) (q₁ .index) ≢ helpedL (bs₁ m) (hs₁ m) q₁)
-            → (q₁ .point ≡ 13 → childWord (bs₁ m) (hs₁ m) (helpedThird (bs₁ m) (hs₁ m) q₁) (q₁ .index) ≢ helpedP (bs₁ m) (hs₁ m) q₁)
-            → (r : ℕ) → ¬ ChildSwap s es m r
-        nobody-swaps a c r w =
-            no (subst (λ (p : ℕ). Swapping (bs₁ m) (hs₁ m) (taken (W₁ m) p)) (sym (step-one n (w .process) (sym z ∙ w .event))) (w .swapping))
-          where
-            no : Swapping (bs₁ m) (hs₁ m) q₁ → ⊥
-            no (seven p x) = a p x
-            no (thirteen p x) = c p x
-
-        go : Swapper hs₁ bs₁ m q₁ (tables hs₁ bs₁ (suc m)) (both-parts .0) → Kind s es m (both-parts .0)
-        go (at-7 p x v) = swap-of (q₁ .helped) (known (good .now) q₁ y 7 p .used .low) (swaps-by (seven p x)) v
-        go (at-13 p x v) = swap-of (q₁ .helped) (known (good .now) q₁ y 13 p .used .low) (swaps-by (thirteen p x)) v
-        go (nobody a c v) = no-swap v (nobody-swaps a c)
-
   move-by : (e : Event) → eventAt es m ≡ e → Move s es m
-  move-by (step n) z = go (calls.step-goes (W₁ m) (good .now .fit) (good .rows) n)
+  move-by (step n) z = go (calls.step-goes (W m) (good .now .fit) (good .rows) n)
     where
-      same : (r : ℕ) → stepIn (W₁ m) n ≡ stepRefusedIn (W₁ m) r → bs₁ (suc m) ≡ bs₁ m
+      same : (r : ℕ) → stepIn (W m) n ≡ stepRefusedIn (W m) r → bs (suc m) ≡ bs m
       same r e = ap (λ (x : State). x .block) (state-next s es m (step n) z) ∙ ap (λ (o : StepOut). o .block) e
 
       here : (r : ℕ) (w : ChildSwap s es m r) → w .process ≡ n
       here r w = step-one (w .process) n (sym (w .event) ∙ z)
 
-      go : calls.Step (W₁ m) (good .now .fit) (good .rows) n → Move s es m
-      go (calls.unknown d e) = rested (same 4 e) (λ r w. d (subst (λ (p : ℕ). In (hs₁ m .processes) p) (here r w) (w .exists)))
-      go (calls.rests u d e) = rested (same 8 e) (λ r w. subst (λ (p : ℕ). taken (W₁ m) p .operation ≢ 0) (here r w) (w .busy) d)
-      go (calls.works u d f) = let y = at-work d (good .each n u) in moved n u d z y (f (step-sound (good .now) (taken (W₁ m) n) y))
+      go : calls.Step (W m) (good .now .fit) (good .rows) n → Move s es m
+      go (calls.unknown d e) = rested (same 4 e) (λ r w. d (subst (λ (p : ℕ). In (hs m .processes) p) (here r w) (w .exists)))
+      go (calls.rests u d e) = rested (same 8 e) (λ r w. subst (λ (p : ℕ). taken (W m) p .operation ≢ 0) (here r w) (w .busy) d)
+      go (calls.works u d f) = let y = at-work d (good .each n u) in moved n u z y (f (step-sound (good .now) (taken (W m) n) y))
   move-by (start n operation key) z =
       rested (ap (λ (x : State). x .block) (state-next s es m (start n operation key) z)) (λ r w. start-step n operation key (w .process) (sym z ∙ w .event))
 

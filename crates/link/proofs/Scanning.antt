@@ -1,7 +1,6 @@
 -- Row 3: the children of p are read in turn, and the mask counts those that are not empty.
 use Prim.Native.Nat.{ℕ, suc, _+_, _*_, _-_, _^_, _≤_, _<_}
 use mathlib.Core.Path.{_≡_, refl, sym, ap, _∙_, subst}
-use mathlib.Core.Logic.{_≢_}
 use mathlib.Core.Bool.{Bool, true, false, not}
 use mathlib.Core.List.{List}
 use native.Mathlib.Omega.{arith}
@@ -30,7 +29,7 @@ use Rattle.history.proofs.Pairs.{full, full-yes, full-no}
 use Rattle.history.proofs.Knows.{Mind, KnowsAt, Counts}
 use Rattle.history.proofs.Downward.{row-3-next, row-3-prune, row-3-replace}
 use Rattle.link.proofs.Checks.{kin-internal, kin-leaf, below-good}
-use Rattle.link.proofs.Minds.{mindOf}
+use Rattle.link.proofs.Minds.{only-delete, mindOf}
 use Rattle.link.proofs.Moments.{tables, Now, Busy, Follows, already, Turn, k-low, now-sound, quiet}
 use Rattle.link.proofs.Searching.{counters-early, known}
 
@@ -108,13 +107,7 @@ module _ {hs : ℕ → Header} {bs : ℕ → List ℕ} {i j n : ℕ} (now : Now 
       (bit-set (q .mask) (q .index) (tagWord b h child) (w .index-in .low) (y .counters .masked e₃))
 
   delete : q .operation ≡ 3
-  delete = omega (arith, y .counters .op-low, y .counters .op-high, not-1, not-2)
-    where
-      not-1 : q .operation ≢ 1
-      not-1 z = omega (arith, y .counters .find z)
-
-      not-2 : q .operation ≢ 2
-      not-2 z = y .counters .insert-3 z e₃
+  delete = only-delete (y .counters) (omega arith) (λ z. y .counters .insert-3 z e₃)
 
   mask-small : mask′ < 2 ^ k
   mask-small = omega (arith, bit .small, pow-mono {i = q .index} {j = k} (w .index-in .high))

@@ -27,7 +27,7 @@ use Rattle.process.specs.Answer.{answer, goingOn}
 use Rattle.help.specs.Help.{helping}
 use Rattle.help.specs.Rows.{childGood, kinAt}
 use Rattle.points.specs.Rows.{touch2, row1, row2, insertAt, deleteAt, findAt, atLeaf, atChild, leafGood2}
-use Rattle.history.specs.View.{In, infinity, route, keys}
+use Rattle.history.specs.View.{In, route, keys}
 use Rattle.history.specs.Shared.{Shared}
 use Rattle.history.proofs.Invariant.{Sound}
 use Rattle.history.proofs.Stacks.{Stacked, stack-empty}
@@ -151,14 +151,10 @@ module _ {hs : ℕ → Header} {bs : ℕ → List ℕ} {i j n : ℕ} (now : Now 
     got = ap (λ (m : ℕ). childWord b h (q .p) m) (sym (route-are b h (q .p) (q .key)))
 
     used : In (h .nodesused) child
-    used = child-used (k-low now) (now .run) (now .first) (w₂ .way) got
+    used = child-used (k-low now) (now .run) (now .first) (w₂ .descends .way) got
 
     over : q .p < child
-    over = child-above (k-low now) (now .run) (now .first) (w₂ .way) got
-
-    fin : q .key < infinity
-    unfolding infinity
-    fin = y .counters .finite
+    over = child-above (k-low now) (now .run) (now .first) (w₂ .descends .way) got
 
     -- an internal child
     down : tagWord b h child ≡ k → Follows hs bs i j n h b q (goingOn (withPoint (descendedOf q child) 1))
@@ -207,7 +203,7 @@ module _ {hs : ℕ → Header} {bs : ℕ → List ℕ} {i j n : ℕ} (now : Now 
       }
 
       low : 2 ≤ q .p
-      low = leaf-below (k-low now) (now .run) (now .first) (w₂ .way) got fin not-inner
+      low = leaf-below (k-low now) (now .run) (now .first) (w₂ .descends .way) got (y .counters .finite) not-inner
 
       up : Above k S i j (q .key) (q .gp) (q .p) (wordOf (q .gseen)) → Read (S j) (q .gp) (wordOf (q .gseen))
       up (at-root a d) = absurd (omega (arith, low))
@@ -219,12 +215,12 @@ module _ {hs : ℕ → Header} {bs : ℕ → List ℕ} {i j n : ℕ} (now : Now 
 
       finds : q .operation ≡ 1 → (t : Bool) → holds (q .key) (keysOf b h child (tagWord b h child)) ≡ t → Follows hs bs i j n h b q (findAt (withL q child) t)
       unfolding pick
-      finds o true e = answers (answer 1) refl (λ z. absurd (z (y .counters .early-own (omega arith)))) (found o refl (leaf-has (k-low now) (now .run) (now .first) (w₂ .way) got not-inner (has e)))
-      finds o false e = answers (answer 0) refl (λ z. absurd (z (y .counters .early-own (omega arith)))) (missing o refl (leaf-lacks (k-low now) (now .run) (now .first) (w₂ .way) got not-inner (lacks e)))
+      finds o true e = answers (answer 1) refl (λ z. absurd (z (y .counters .early-own (omega arith)))) (found o refl (leaf-has (k-low now) (now .run) (now .first) (w₂ .descends .way) got not-inner (has e)))
+      finds o false e = answers (answer 0) refl (λ z. absurd (z (y .counters .early-own (omega arith)))) (missing o refl (leaf-lacks (k-low now) (now .run) (now .first) (w₂ .descends .way) got not-inner (lacks e)))
 
       inserts : q .operation ≡ 2 → (t : Bool) → holds (q .key) (keysOf b h child (tagWord b h child)) ≡ t → Follows hs bs i j n h b q (insertAt (withL q child) t)
       unfolding pick
-      inserts o true e = answers (answer 0) refl (λ z. absurd (z (y .counters .early-own (omega arith)))) (there o refl (y .counters .early-own (omega arith)) (leaf-has (k-low now) (now .run) (now .first) (w₂ .way) got not-inner (has e)))
+      inserts o true e = answers (answer 0) refl (λ z. absurd (z (y .counters .early-own (omega arith)))) (there o refl (y .counters .early-own (omega arith)) (leaf-has (k-low now) (now .run) (now .first) (w₂ .descends .way) got not-inner (has e)))
       inserts o false e = go (isCleanOf (q .pseen)) refl
         where
           four : (c : ℕ) → q .pseen ≡ Clean c → Follows hs bs i j n h b q (goingOn (withPoint (withL q child) 4))
@@ -232,7 +228,7 @@ module _ {hs : ℕ → Header} {bs : ℕ → List ℕ} {i j n : ℕ} (now : Now 
               already (withPoint (withL q child) 4) refl (λ d. absurd (d refl)) held
               (counters-early 4 (q .index) (q .mask) (y .counters) (omega arith) (omega arith) (omega arith) (λ x. absurd (omega arith)) (λ x v. omega arith) (λ x v. omega arith)
               (y .counters .index-high) (y .counters .mask-high) (λ x. absurd (omega arith)))
-              (row-2-replace (mindOf h b n (withPoint (withL q child) 4)) (k-low now) (now .run) (now .first) refl w₂ got fin not-inner c (clean-word (q .pseen) c z) refl refl refl
+              (row-2-replace (mindOf h b n (withPoint (withL q child) 4)) (k-low now) (now .run) (now .first) refl w₂ got (y .counters .finite) not-inner c (clean-word (q .pseen) c z) refl refl refl
               (to-put o (lacks e)))
 
           go : (t : Bool) → isCleanOf (q .pseen) ≡ t
@@ -242,7 +238,7 @@ module _ {hs : ℕ → Header} {bs : ℕ → List ℕ} {i j n : ℕ} (now : Now 
 
       deletes : q .operation ≡ 3 → (t : Bool) → holds (q .key) (keysOf b h child (tagWord b h child)) ≡ t → Follows hs bs i j n h b q (deleteAt (withL q child) t)
       unfolding pick ones onesIn
-      deletes o false e = answers (answer 0) refl (λ z. absurd (z (y .counters .early-own (omega arith)))) (not-there o refl (y .counters .early-own (omega arith)) (leaf-lacks (k-low now) (now .run) (now .first) (w₂ .way) got not-inner (lacks e)))
+      deletes o false e = answers (answer 0) refl (λ z. absurd (z (y .counters .early-own (omega arith)))) (not-there o refl (y .counters .early-own (omega arith)) (leaf-lacks (k-low now) (now .run) (now .first) (w₂ .descends .way) got not-inner (lacks e)))
       deletes o true e = go (isCleanOf (q .gseen)) refl (isCleanOf (q .pseen)) refl
         where
           three : (c g : ℕ) → q .pseen ≡ Clean c → q .gseen ≡ Clean g → Follows hs bs i j n h b q (goingOn (toThree (withL q child)))
@@ -250,14 +246,14 @@ module _ {hs : ℕ → Header} {bs : ℕ → List ℕ} {i j n : ℕ} (now : Now 
               already (toThree (withL q child)) refl (λ d. absurd (d refl)) held
               (counters-early 3 1 0 (y .counters) (omega arith) (omega arith) (omega arith) (λ v. absurd (omega arith)) (λ v u. omega arith) (λ v u. omega arith)
               (omega (arith, k-low now)) (pow-pos k) (λ v. pow-pos 0))
-              (row-2-count (mindOf h b n (toThree (withL q child))) (k-low now) (now .run) (now .first) refl w₂ got fin not-inner c (clean-word (q .pseen) c z) refl refl refl g
+              (row-2-count (mindOf h b n (toThree (withL q child))) (k-low now) (now .run) (now .first) refl w₂ got (y .counters .finite) not-inner c (clean-word (q .pseen) c z) refl refl refl g
               (clean-word (q .gseen) g x) refl refl (has e) refl refl)
 
           go : (t : Bool) → isCleanOf (q .gseen) ≡ t → (u : Bool) → isCleanOf (q .pseen) ≡ u
               → Follows hs bs i j n h b q (pick t (pick u (goingOn (toThree (withL q child))) (helping 0 (withL q child) (q .pseen))) (helping 0 (withL q child) (q .gseen)))
           go true z true x = let c = clean-of (q .pseen) x in let g = clean-of (q .gseen) z in three (c .0) (g .0) (c .1) (g .1)
           go true z false x = helps (λ v. omega arith) (q .pseen) (w₂ .read)
-          go false z u x = helps (λ v. omega arith) (q .gseen) (up (w₂ .from))
+          go false z u x = helps (λ v. omega arith) (q .gseen) (up (w₂ .descends .from))
 
       at-leaf : Follows hs bs i j n h b q (atLeaf (withL q child) (holds (q .key) (keysOf b h child (tagWord b h child))))
       unfolding pick

@@ -1,5 +1,5 @@
 -- What the rows from 6 on share: a helper's facts over a step, one word written, a look at a child, the top of a stack.
-use Prim.Native.Nat.{ℕ, zero, suc, _+_, _-_, _≤_, _<_}
+use Prim.Native.Nat.{ℕ, zero, suc, _+_, _≤_, _<_}
 use mathlib.Core.Path.{_≡_, refl, ap}
 use mathlib.Core.Logic.{_≢_}
 use mathlib.Core.Bool.{Bool, true, false}
@@ -68,16 +68,18 @@ module _ {hs : ℕ → Header} {bs : ℕ → List ℕ} {i j n : ℕ} (now : Now 
   written {b′} w e step swapper stacks f = record {
     is-sound = e;
     h′ = h;
-    fit′ = writes-fit (now .fit) w;
-    k-same = refl;
-    processes-same = refl;
-    nodes-same = refl;
-    step = step;
+    shift = record {
+      fit′ = writes-fit (now .fit) w;
+      k-same = refl;
+      processes-same = refl;
+      step = step;
+      stacks = stacks;
+      owners′ =
+          λ r u. rw (w .rec r processField (in-record (now .fit) r processField u (omega arith))) (now .owners r u);
+      drawn-by = λ r a c. absurd (omega arith);
+    };
     swapper = swapper;
-    stacks = stacks;
-    owners′ =
-        λ r u. rw (w .rec r processField (in-record (now .fit) r processField u (omega arith))) (now .owners r u);
-    drawn-by = λ r a c. absurd (omega arith);
+    drawn-as = λ r a c. absurd (omega arith);
     follows = f;
   }
 

@@ -1,6 +1,7 @@
 -- A step of a busy process, at whichever point: nothing that it reads or swaps is damaged, and its row gives its turn.
 use Prim.Native.Nat.{ℕ, zero, suc, _≤_}
 use mathlib.Core.Path.{_≡_, refl, sym, subst}
+use mathlib.Core.Logic.{_≢_}
 use mathlib.Core.Bool.{true}
 use mathlib.Core.List.{List}
 use native.Mathlib.Omega.{arith}
@@ -68,48 +69,28 @@ module _ {hs : ℕ → Header} {bs : ℕ → List ℕ} {i j n : ℕ} (now : Now 
   pub turn : Turn hs bs i j n q (rowOf b h n q .sound) (rowOf b h n q .stepped) (rowOf b h n q .block)
   turn = turn-at (q .point) refl
 
+  -- 1 to 5: what is used there, and nothing that belongs to helping
+  uses-early : q .point ≤ 5 → (3 ≤ q .point → q .l ≢ 0) → (q .point ≡ 5 → q .gp ≢ 0) → (q .point ≡ 3 → q .index ≢ 0)
+      → Uses (depthOf h) (q .point) (q .gp) (q .l) (q .index) (q .helped) (q .other) (q .depth)
+  uses-early l a c d = record {
+    room = omega (arith, y .counters .early-depth l);
+    l-there = λ z e. a z;
+    gp-there = c;
+    helped-there = λ z. absurd (omega arith);
+    index-there = d;
+    other-there = λ z. absurd (omega arith);
+  }
+
   uses-at : (m : ℕ) → q .point ≡ m → KnowsAt k S i j mind m → Uses (depthOf h) (q .point) (q .gp) (q .l) (q .index) (q .helped) (q .other) (q .depth)
   uses-at zero e w = absurd w
-  uses-at (suc zero) e w = record {
-    room = omega (arith, y .counters .early-depth (omega arith));
-    l-there = λ a d. absurd (omega arith);
-    gp-there = λ a. absurd (omega arith);
-    helped-there = λ a. absurd (omega arith);
-    index-there = λ a. absurd (omega arith);
-    other-there = λ a. absurd (omega arith);
-  }
-  uses-at (suc (suc zero)) e w = record {
-    room = omega (arith, y .counters .early-depth (omega arith));
-    l-there = λ a d. absurd (omega arith);
-    gp-there = λ a. absurd (omega arith);
-    helped-there = λ a. absurd (omega arith);
-    index-there = λ a. absurd (omega arith);
-    other-there = λ a. absurd (omega arith);
-  }
-  uses-at (suc (suc (suc zero))) e w = record {
-    room = omega (arith, y .counters .early-depth (omega arith));
-    l-there = λ a d z. omega (arith, w .delete .leaf .used .low);
-    gp-there = λ a. absurd (omega arith);
-    helped-there = λ a. absurd (omega arith);
-    index-there = λ a z. omega (arith, w .index-in .low);
-    other-there = λ a. absurd (omega arith);
-  }
-  uses-at (suc (suc (suc (suc zero)))) e w = record {
-    room = omega (arith, y .counters .early-depth (omega arith));
-    l-there = λ a d z. omega (arith, w .leaf .used .low);
-    gp-there = λ a. absurd (omega arith);
-    helped-there = λ a. absurd (omega arith);
-    index-there = λ a. absurd (omega arith);
-    other-there = λ a. absurd (omega arith);
-  }
-  uses-at (suc (suc (suc (suc (suc zero))))) e w = record {
-    room = omega (arith, y .counters .early-depth (omega arith));
-    l-there = λ a d z. omega (arith, w .delete .leaf .used .low);
-    gp-there = λ a z. omega (arith, w .delete .up .way .used .low);
-    helped-there = λ a. absurd (omega arith);
-    index-there = λ a. absurd (omega arith);
-    other-there = λ a. absurd (omega arith);
-  }
+  uses-at (suc zero) e w = uses-early (omega arith) (λ a. absurd (omega arith)) (λ a. absurd (omega arith)) (λ a. absurd (omega arith))
+  uses-at (suc (suc zero)) e w = uses-early (omega arith) (λ a. absurd (omega arith)) (λ a. absurd (omega arith)) (λ a. absurd (omega arith))
+  uses-at (suc (suc (suc zero))) e w =
+      uses-early (omega arith) (λ a z. omega (arith, w .delete .arrived .leaf .used .low)) (λ a. absurd (omega arith)) (λ a z. omega (arith, w .index-in .low))
+  uses-at (suc (suc (suc (suc zero)))) e w =
+      uses-early (omega arith) (λ a z. omega (arith, w .arrived .leaf .used .low)) (λ a. absurd (omega arith)) (λ a. absurd (omega arith))
+  uses-at (suc (suc (suc (suc (suc zero))))) e w =
+      uses-early (omega arith) (λ a z. omega (arith, w .delete .arrived .leaf .used .low)) (λ a z. omega (arith, w .delete .up .way .used .low)) (λ a. absurd (omega arith))
   uses-at (suc (suc (suc (suc (suc (suc x)))))) e w =
       serves-uses q (now .fit) I (y .counters) n (suc (suc (suc (suc (suc (suc x)))))) e (omega arith) w
 

@@ -1,5 +1,5 @@
 -- The story of a busy process: the start that it goes back to, its steps counted, and the records that it has drawn since.
-use Prim.Native.Nat.{ℕ, zero, suc, _+_, _-_, _≤_, _<_}
+use Prim.Native.Nat.{ℕ, zero, suc, _+_, _≤_, _<_}
 use mathlib.Core.Path.{_≡_, refl, sym, ap, _∙_, subst}
 use mathlib.Core.Logic.{_≢_, _⊎_, inl, inr}
 use mathlib.Core.Bool.{Bool, true, false}
@@ -165,7 +165,7 @@ module _ {s : State} {es : List Event} (reached : Reached s es) where
         past : (r : ℕ) → In (S (suc m) .records) r → S (sinceAt s es n m) .records < r → S (suc m) .rec r .process ≡ n → Dec (r ≤ S m .records)
             → (r ≡ taken (W (suc m)) n .own) ⊎ Failed (S (suc m) .view) (S (suc m) .rec r) r
         past r v l p (no d) =
-            inl (sym (ap (λ (a : Process). a .own) own-now ∙ its-turn (good reached m) n u z b e .drawn-by r (omega arith) (omega (arith, v .high, records-is)) .1))
+            inl (sym (ap (λ (a : Process). a .own) own-now ∙ its-turn (good reached m) n u z b e .drawn-as r (omega arith) (omega (arith, v .high, records-is)) .0))
         past r v l p (yes d) = old (y .past r w l (ap (λ (a : Desc). a .process) (sym (grows reached m (suc m) (omega arith) .rec-same r w)) ∙ p))
           where
             w : In (S m .records) r

@@ -1,5 +1,5 @@
 -- Writes of one node word, and of stack words: what they are to the tables as the history sees them.
-use Prim.Native.Nat.{ℕ, _*_, _-_, _≤_, _<_}
+use Prim.Native.Nat.{ℕ, _*_, _≤_, _<_}
 use mathlib.Core.Path.{_≡_, refl, sym, _∙_, fun-ext}
 use mathlib.Core.Bool.{Bool, true, false}
 use mathlib.Core.List.{List}
@@ -18,7 +18,7 @@ use Rattle.tables.proofs.Limits.{Limits}
 use Rattle.history.specs.View.{In}
 use Rattle.history.specs.Change.{SwapChild, SwapPend, SameTables}
 use Rattle.history.specs.Run.{Same}
-use Rattle.history.proofs.Within.{within-same}
+use Rattle.history.proofs.Alone.{alone-same}
 use Rattle.link.specs.Tables.{viewOf, descOf, tablesOf, stackOf}
 
 -- a block that is what its header says
@@ -112,7 +112,7 @@ module _ {h : Header} {b b′ : List ℕ} {p off : ℕ} (fit : Fit h b) (w : Wri
     tags-same n i = word n 0 i (omega arith) (λ e. omega (arith, e .1, k-low))
 
     pub keys-same : (n : ℕ) → In (h .nodesused) n → viewOf h b′ .key n ≡ viewOf h b .key n
-    keys-same n i = within-same (h .k) _ _ (λ a l g. word n a i (omega arith) (λ e. omega (arith, e .1)))
+    keys-same n i = alone-same (h .k) _ _ (λ a l g. word n a i (omega arith) (λ e. omega (arith, e .1)))
 
 -- a child word
 module _ {h : Header} {b b′ : List ℕ} {p i : ℕ} (fit : Fit h b) (slot : In (h .k) i) (w : Writes h b b′ p (childPlace (h .k) i)) where

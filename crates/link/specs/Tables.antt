@@ -6,14 +6,14 @@ use Rattle.tables.specs.Choice.{pick}
 use Rattle.tables.specs.Layout.{depthOf, tagWord, keyWord, childWord, pendingWord, recordWord, stackWord}
 use Rattle.tables.specs.Layout.{kindField, lField, pField, thirdField, expectedField, processField, operationField, keyField}
 use Rattle.tables.specs.declared.header.Header.{Header}
-use Rattle.history.specs.View.{View, within}
+use Rattle.history.specs.View.{View, keys-alone}
 use Rattle.history.specs.Shared.{Desc, Shared}
 
 -- the node table; of the words of a node, those at 1 to k − 1 are its keys
 abbrev pub viewOf : Header → List ℕ → View
 viewOf h b = record {
   tag = λ n. tagWord b h n;
-  key = λ n. within (h .k) (λ i. keyWord b h n i);
+  key = λ n. keys-alone (h .k) (λ i. keyWord b h n i);
   child = λ n i. childWord b h n i;
   pend = λ n. pendingWord b h n;
 }

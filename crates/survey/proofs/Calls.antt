@@ -3,7 +3,7 @@ use Prim.Native.Nat.{ℕ, _≤_, _<_}
 use mathlib.Core.Path.{_≡_, refl, sym, ap, _∙_}
 use mathlib.Core.Logic.{_≢_, _⊎_, inl, inr, _↔_}
 use mathlib.Core.Bool.{Bool, true, false, not}
-use mathlib.Core.List.{List, [], _∷_, _++_, List·Memᴰ, List·Memᴰ·head, List·Memᴰ·not-nil}
+use mathlib.Core.List.{List, [], _∷_, _++_}
 use native.Mathlib.Omega.{arith}
 use native.Mathlib.Decide.{ℕ-discrete, decLt}
 use lib.Dec.{ltb, eqb}
@@ -18,20 +18,17 @@ use Rattle.tables.specs.declared.header.Header.{Header}
 use Rattle.tables.specs.declared.numbers.Refusal.{Refusal}
 use Rattle.tables.specs.declared.numbers.Refusal.the-variants.{ListTooShort, InfinityGiven, LowAboveHigh}
 use Rattle.tables.proofs.Picks.{either-some}
-use Rattle.tables.proofs.OneToOne.{none-accepts, first-refuses}
+use Rattle.tables.proofs.OneToOne.{none-accepts}
 use Rattle.walk.specs.Walk.{walked}
 use Rattle.walk.specs.Calls.{keysMet, listRest, listReasons, ListOut, listOut, listOf, partOf, anyWithin, rangeRest, rangeReasons, rangeOf}
 use Rattle.walk.specs.declared.Listed.the-variants.{Count, Refused as ListRefused}
 use Rattle.walk.specs.declared.Cleared.the-variants.{No, Yes, Refused as RangeRefused}
-use Rattle.walk.proofs.Answers.{one-listed, list-first-says, list-counts, list-count, range-first-says, Clear, Inside, any-inside, none-clear, clear-yes, range-inside-no, yes-clear, no-inside}
+use Rattle.walk.proofs.Answers.{one-listed, list-first-says, list-counts, range-first-says, Clear, Inside, any-inside, none-clear, clear-yes, range-inside-no, yes-clear, no-inside}
 use Rattle.history.proofs.Invariant.{Sound}
 use Rattle.link.specs.Tables.{tablesOf}
 use Rattle.link.proofs.Writes.{Fit}
-use Rattle.link.proofs.Keyed.{holds-mem, holds-not}
 use Rattle.link.proofs.Calls.{limits-good}
-use Rattle.link.specs.Sets.{Has}
 use Rattle.survey.specs.Set.{Lists, ClearOf, Between}
-use Rattle.survey.proofs.Rows.{rises-one}
 use Rattle.survey.proofs.Walks.{walk-sound, walk-keys, walk-rises}
 
 -- an answer is one thing
@@ -64,13 +61,9 @@ module _ {b : List ℕ} (fit : Fit (headerOf b) b) (I : Sound (headerOf b .k) (t
   unharmed : not (walked b h .sound) ≡ false
   unharmed = ap not (walk-sound fit I)
 
-  -- the keys met list the set, and no other row does
+  -- the keys met list the set
   pub keys-list : Lists b (keysMet b)
   keys-list = record { exact = walk-keys fit I; ascending = walk-rises fit I }
-
-  pub lists-one : (ks : List ℕ) → Lists b ks → ks ≡ keysMet b
-  lists-one ks l =
-      rises-one ks (keysMet b) (l .ascending) (keys-list .ascending) (λ x m. keys-list .exact x .1 (l .exact x .0 m)) (λ x m. l .exact x .1 (keys-list .exact x .0 m))
 
   -- the listing
   module _ (list : List ℕ) where
@@ -102,46 +95,9 @@ module _ {b : List ℕ} (fit : Fit (headerOf b) b) (I : Sound (headerOf b .k) (t
         go q (yes l) = (list-same ListTooShort e list (sym (list-too-short l) ∙ q), l)
         go q (no l) = absurd (list-apart (length (keysMet b)) e (overFront (keysMet b) list) list (sym (list-answers (omega arith)) ∙ q))
 
-    -- the twin hands back the keys, or nothing where it is refused
+    -- the twin hands back the keys
     pub part-answers : length (keysMet b) ≤ length list → partOf b list ≡ keysMet b
     part-answers l = none-accepts (λ n. []) (keysMet b) (listReasons b (length list)) (list-fine l)
-
-    pub part-too-short : length list < length (keysMet b) → partOf b list ≡ []
-    part-too-short l = first-refuses (λ n. []) (keysMet b) 9 (listReasons b (length list)) (short l)
-
-    -- it answers 0 exactly when the set is empty
-    pub list-empty : (listOf b list .listed ≡ Count 0) ↔ ((x : ℕ) → ¬ Has b x)
-    list-empty = (λ e x i. bare (keysMet b) (list-count b list 0 e .1) x (keys-list .exact x .1 i), λ f. empties (nothing (keysMet b) (λ x m. f x (keys-list .exact x .0 m))))
-      where
-        bare : (ks : List ℕ) → 0 ≡ length ks → (x : ℕ) → List·Memᴰ x ks → ⊥
-        bare [] e x m = List·Memᴰ·not-nil m
-        bare (y ∷ ys) e x m = omega arith
-
-        nothing : (ks : List ℕ) → ((x : ℕ) → ¬ List·Memᴰ x ks) → length ks ≡ 0
-        nothing [] f = refl
-        nothing (y ∷ ys) f = absurd (f y (List·Memᴰ·head refl))
-
-        empties : length (keysMet b) ≡ 0 → listOf b list .listed ≡ Count 0
-        empties e = ap (λ (o : ListOut). o .listed) (list-answers (omega arith)) ∙ ap Count e
-
-    -- the same by whatever row lists the set
-    module _ {ks : List ℕ} (r : Lists b ks) where
-      pub row-answers : length ks ≤ length list → (listOf b list ≡ listOut (Count (length ks)) (overFront ks list)) × (partOf b list ≡ ks)
-      row-answers l =
-          let e = lists-one ks r in
-          let m : length (keysMet b) ≤ length list = rw e at l in
-          (list-answers m ∙ ap (λ (js : List ℕ). listOut (Count (length js)) (overFront js list)) (sym e), part-answers m ∙ sym e)
-
-      pub row-too-short : length list < length ks → (listOf b list ≡ listOut (ListRefused ListTooShort) list) × (partOf b list ≡ [])
-      row-too-short l = let m : length list < length (keysMet b) = rw (lists-one ks r) at l in (list-too-short m, part-too-short m)
-
-  -- a key is in the set or not: the listing tells
-  pub held? : (x : ℕ) → Dec (Has b x)
-  held? x = go (holds x (keysMet b)) refl
-    where
-      go : (t : Bool) → holds x (keysMet b) ≡ t → Dec (Has b x)
-      go true e = yes (walk-keys fit I x .0 (holds-mem x (keysMet b) e))
-      go false e = no (λ s. holds-not x (keysMet b) e (walk-keys fit I x .1 s))
 
   -- range
   module _ (low high : ℕ) where

@@ -1,4 +1,3 @@
--- Listing and range on sound tables: the walk over a block is the walk of the history, so its keys are the set.
-pub mod Rows
+-- Listing and range on sound tables: the walk over a block meets the nodes and keys that the history says, so its keys are the set.
 pub mod Walks
 pub mod Calls

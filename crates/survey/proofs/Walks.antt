@@ -3,13 +3,13 @@ use Prim.Native.Nat.{ℕ, zero, suc, _+_, _-_, _≤_, _<_}
 use mathlib.Core.Path.{_≡_, refl, sym, ap, _∙_, subst}
 use mathlib.Core.Logic.{_≢_, _↔_}
 use mathlib.Core.Bool.{true}
-use mathlib.Core.List.{List, [], _∷_, _++_, List·Memᴰ, append-nil, append-assoc}
+use mathlib.Core.List.{List, [], _∷_, _++_, List·Memᴰ, flatten, append-nil, append-assoc}
 use native.Mathlib.Omega.{arith}
 use native.Mathlib.Decide.{ℕ-discrete}
 use lib.Dec.{eqb}
 use lib.ListN.{length, length-append}
 use borrow.Author.Tests.{lt-ltb, ne-eqb}
-use Rattle.tables.specs.Choice.{pick}
+use Rattle.tables.specs.Choice.{pick, listed}
 use Rattle.tables.specs.Layout.{tagWord, childWord}
 use Rattle.tables.specs.Node.{kinOf, childOf}
 use Rattle.tables.specs.declared.header.Header.{Header}
@@ -20,7 +20,7 @@ use Rattle.walk.specs.Walk.{Walk, walk, begin, spent, damaged, leafMet, inOrder
 use Rattle.tables.proofs.Picks.{both-true}
 use Rattle.history.specs.View.{View, In, keys, Reach, top, by, Holds}
 use Rattle.history.specs.Keys.{Rises}
-use Rattle.history.specs.Walk.{concat-from, nodes-of, keys-of}
+use Rattle.history.specs.Walk.{nodes-of, keys-of}
 use Rattle.history.proofs.Invariant.{Sound}
 use Rattle.history.proofs.Touch.{reach-used}
 use Rattle.history.proofs.Walking.{Listing, listing}
@@ -30,11 +30,11 @@ use Rattle.link.proofs.Keyed.{keys-are, sorted-rises}
 use Rattle.link.proofs.Checks.{kin-is, kin-internal, kin-leaf}
 
 -- the children of the history are put together from the first on, the walk's from the last back
-concat-last : (f : ℕ → List ℕ) (d i j : ℕ) → j ≡ i + d → concat-from f (suc d) i ≡ concat-from f d i ++ f j
-unfolding concat-from
-concat-last f zero i j e = let z : i ≡ j = omega arith in append-nil (f i) ∙ ap f z
-concat-last f (suc d) i j e =
-    ap (λ (l : List ℕ). f i ++ l) (concat-last f d (suc i) j (omega arith)) ∙ sym (append-assoc (f i) (concat-from f d (suc i)) (f j))
+flatten-last : (f : ℕ → List ℕ) (i d j : ℕ) → j ≡ i + d → flatten (listed f i (suc d)) ≡ flatten (listed f i d) ++ f j
+unfolding flatten listed
+flatten-last f i zero j e = let z : i ≡ j = omega arith in append-nil (f i) ∙ ap f z
+flatten-last f i (suc d) j e =
+    ap (λ (l : List ℕ). f i ++ l) (flatten-last f (i + 1) d j (omega arith)) ∙ sym (append-assoc (f i) (flatten (listed f (i + 1) d)) (f j))
 
 -- where a walk stands that has gone on from w over so many nodes and these keys
 abbrev onward : Walk → ℕ → List ℕ → Walk
@@ -50,16 +50,16 @@ module _ (visit : ℕ → Walk → Walk) (f g : ℕ → List ℕ) where
   abbrev Visits : ℕ → Type 0
   Visits d = (i : ℕ) (v : Walk) → In d i → length (g i) ≤ v .allowed → visit i v ≡ onward v (length (g i)) (f i)
 
-  order-meets : (d : ℕ) (w : Walk) → Visits d → length (concat-from g d 1) ≤ w .allowed
-      → inOrder visit d w ≡ onward w (length (concat-from g d 1)) (concat-from f d 1)
-  unfolding inOrder concat-from
+  order-meets : (d : ℕ) (w : Walk) → Visits d → length (flatten (listed g 1 d)) ≤ w .allowed
+      → inOrder visit d w ≡ onward w (length (flatten (listed g 1 d))) (flatten (listed f 1 d))
+  unfolding inOrder flatten listed
   order-meets zero w v l = let z : w .allowed - 0 ≡ w .allowed = omega arith in rw (z, append-nil (w .keys)) refl
   order-meets (suc d) w v l =
-      let m : length (concat-from g (suc d) 1) ≡ length (concat-from g d 1) + length (g (suc d)) =
-      ap length (concat-last g d 1 (suc d) (omega arith)) ∙ length-append (concat-from g d 1) (g (suc d)) in
+      let m : length (flatten (listed g 1 (suc d))) ≡ length (flatten (listed g 1 d)) + length (g (suc d)) =
+      ap length (flatten-last g 1 d (suc d) (omega arith)) ∙ length-append (flatten (listed g 1 d)) (g (suc d)) in
       ap (visit (suc d)) (order-meets d w (λ i x u y. v i x (omega arith) y) (omega (arith, m)))
-      ∙ v (suc d) (onward w (length (concat-from g d 1)) (concat-from f d 1)) (omega arith) (omega (arith, m))
-      ∙ onward-twice w (length (concat-from g d 1)) (length (g (suc d))) _ (concat-from f d 1) (f (suc d)) _ m (concat-last f d 1 (suc d) (omega arith))
+      ∙ v (suc d) (onward w (length (flatten (listed g 1 d))) (flatten (listed f 1 d))) (omega arith) (omega (arith, m))
+      ∙ onward-twice w (length (flatten (listed g 1 d))) (length (g (suc d))) _ (flatten (listed f 1 d)) (f (suc d)) _ m (flatten-last f 1 d (suc d) (omega arith))
 
 module _ {b : List ℕ} {h : Header} (fit : Fit h b) (I : Sound (h .k) (tablesOf h b)) where
   abbrev k : ℕ
@@ -102,11 +102,11 @@ module _ {b : List ℕ} {h : Header} (fit : Fit h b) (I : Sound (h .k) (tablesOf
       go (ℕ-discrete (tagWord b h n) k) l
       (λ (c : ℕ) (v : Walk) (r : Reach k t c) (d : h .nodesused < c + deep) (y : length (nodes-of k t deep c) ≤ v .allowed). walk-meets deep c v r d y)
     where
-      go : (d : Dec (tagWord b h n ≡ k)) → length {A = ℕ} (n ∷ elim d [ yes q ↦ concat-from (λ i. nodes-of k t deep (t .child n i)) k 1 | no q ↦ [] ]) ≤ w .allowed
+      go : (d : Dec (tagWord b h n ≡ k)) → length {A = ℕ} (n ∷ elim d [ yes q ↦ flatten (listed (λ i. nodes-of k t deep (t .child n i)) 1 k) | no q ↦ [] ]) ≤ w .allowed
           → ((c : ℕ) (v : Walk) → Reach k t c → h .nodesused < c + deep → length (nodes-of k t deep c) ≤ v .allowed → Meets deep c v)
           → pick (eqb (w .allowed) 0) (damaged w) (nodeMet (λ c v. walkOf deep b h c v) b h (kinOf b h n) (spent w))
-          ≡ onward w (length {A = ℕ} (n ∷ elim d [ yes q ↦ concat-from (λ i. nodes-of k t deep (t .child n i)) k 1 | no q ↦ [] ]))
-          (elim d [ yes q ↦ concat-from (λ i. keys-of k t deep (t .child n i)) k 1 | no q ↦ keys t n ])
+          ≡ onward w (length {A = ℕ} (n ∷ elim d [ yes q ↦ flatten (listed (λ i. nodes-of k t deep (t .child n i)) 1 k) | no q ↦ [] ]))
+          (elim d [ yes q ↦ flatten (listed (λ i. keys-of k t deep (t .child n i)) 1 k) | no q ↦ keys t n ])
       go (yes q) y ih =
           rw (ne-eqb (w .allowed) 0 (λ z. omega arith), inner-is n o q)
           (order-meets (λ (i : ℕ) (v : Walk). walkOf deep b h (childOf b h n i) v) (λ (i : ℕ). keys-of k t deep (t .child n i)) (λ (i : ℕ). nodes-of k t deep (t .child n i)) k (spent w)
@@ -116,8 +116,8 @@ module _ {b : List ℕ} {h : Header} (fit : Fit h b) (I : Sound (h .k) (tablesOf
       go (no q) y ih =
           rw (ne-eqb (w .allowed) 0 (λ z. omega arith), leaf-is n o q) (leaf-meets n (spent w) o q)
 
-  lists : Listing k (tablesOf h b) (h .nodesused) (h .nodesused)
-  lists = listing (h .nodesused) (h .nodesused) (fit .limits .numbers .k-low) I (omega arith) (omega arith)
+  lists : Listing k (tablesOf h b) (h .nodesused)
+  lists = listing (h .nodesused) (fit .limits .numbers .k-low) I (omega arith)
 
   -- the walk from the root
   walk-is : walked b h ≡ walk (h .nodesused - length (nodes-of k t (h .nodesused) 1)) (keys-of k t (h .nodesused) 1) true

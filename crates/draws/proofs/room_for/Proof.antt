@@ -1,6 +1,6 @@
 -- The proof that `room_for` keeps its contract.
 use borrow.Author.Needs.{needs}
-use Rattle.draws.proofs.Laws.{room-is}
+use Rattle.draws.proofs.Laws.{room-told}
 use Rattle.draws.proofs.room_for.Statement.{statement}
 use Rattle.draws.proofs.room_for.Tie as tie
 
@@ -16,5 +16,5 @@ room-for-spec =
     (λ c. search needs)  -- cast-at-most
     (λ c κs. search needs)  -- at-most-requires
     (λ c κs. search needs)  -- and-requires
-    (λ c. search room-is)  -- returns
+    (λ c. search room-told)  -- returns
     )

@@ -1,4 +1,5 @@
 -- The proof that `finish::point_10` keeps its contract.
+use denote.Ref.{now}
 use borrow.Author.Needs.{needs}
 use Rattle.help.proofs.Finishes.{ten-good, ten-bad}
 use Rattle.help.proofs.finish.point_10.Statement.{statement}
@@ -19,5 +20,5 @@ point-10-spec =
     (λ c. search needs)  -- same-length
     (λ c. search ten-good)  -- returns
     (λ c. search needs)  -- same-length-2
-    (λ c. ten-bad _ _ _ _ _ _ _ _ _ (c .before .before .before .before .before .before .before .before .helped-third .ensures) (c .before .before .before .before .before .before .pending-word .ensures) (c .before .before .before .before .under-top .ensures) (c .before .before .pop-sound .ensures) (c .before .if1 .left) (c .damaged .ensures))  -- returns-2
+    (λ c. let a = c .before .before .before .before .before .before .before .before .before .before .before .args in ten-bad (now (a .block)) (a .h) (a .n) (a .q) _ _ _ _ _ (c .before .before .before .before .before .before .before .before .helped-third .ensures) (c .before .before .before .before .before .before .pending-word .ensures) (c .before .before .before .before .under-top .ensures) (c .before .before .pop-sound .ensures) (c .before .if1 .left) (c .damaged .ensures))  -- returns-2
     )
