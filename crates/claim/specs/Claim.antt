@@ -17,7 +17,7 @@ use Rattle.process.specs.declared.Answer.the-variants.{No, Yes, Full}
 use Rattle.process.specs.declared.StepAnswer.the-variants as steps
 use Rattle.points.specs.declared.start.StartAnswer.the-variants as starts
 use Rattle.index.specs.Calls.{makeCall}
-use Rattle.walk.specs.Calls.{listOut, listOf, partOf, rangeOf}
+use Rattle.walk.specs.Calls.{listOut, listOf, partOf, ClearOf, Between, rangeOf}
 use Rattle.walk.specs.declared.Listed.the-variants as listed
 use Rattle.walk.specs.declared.Cleared.the-variants as cleared
 use Rattle.history.specs.View.{In, route, keys, Reach, Below}
@@ -28,7 +28,7 @@ use Rattle.link.specs.Events.{Event, State, taken, startIn, stepIn, stateAt, bl
 use Rattle.link.specs.Swaps.{ChildSwap}
 use Rattle.link.specs.Operations.{Started, BusyWith, OperationOf, Answered, NoStep, NoStart}
 use Rattle.link.specs.Sets.{tablesAt, viewAt, InSet}
-use Rattle.survey.specs.Set.{Lists, ClearOf, Between}
+use Rattle.survey.specs.Set.{Lists}
 
 -- what listing and its twin return at a moment: the set, strictly ascending; refused 9 for a list that is too short, and not otherwise
 pub record Listing (s : State) (es : List Event) (m : ℕ) : Type 0 where
@@ -40,8 +40,8 @@ pub record Listing (s : State) (es : List Event) (m : ℕ) : Type 0 where
 
 -- what range answers at a moment: yes, and no key of the set lies from low to high; or no, and one does
 pub data Range (s : State) (es : List Event) (m low high : ℕ) : Type 0 where
-  clear : rangeOf (blockAt s es m) low high ≡ cleared.Yes → ClearOf (blockAt s es m) low high → Range s es m low high
-  met : rangeOf (blockAt s es m) low high ≡ cleared.No → Between (blockAt s es m) low high → Range s es m low high
+  clear : rangeOf (blockAt s es m) low high ≡ cleared.Yes → ClearOf (InSet s es m) low high → Range s es m low high
+  met : rangeOf (blockAt s es m) low high ≡ cleared.No → Between (InSet s es m) low high → Range s es m low high
 
 -- what event m does to the set, for the operation that event i started: its key is put in by an insert, taken out by a delete
 pub data Changes (s : State) (es : List Event) (m i : ℕ) : Type 0 where

@@ -2,9 +2,9 @@
 use mathlib.Core.Path.{_≡_}
 use mathlib.Core.Logic.{_≢_}
 use mathlib.Core.List.{List, List·Memᴰ}
-use Prim.Native.Nat.{ℕ, _+_, _-_, _≤_}
+use Prim.Native.Nat.{ℕ, _-_, _≤_}
 use Rattle.tables.specs.Choice.{pick, within, listed}
-use Rattle.tables.specs.Keys.{greaterAt}
+use Rattle.tables.specs.Keys.{routeBy}
 
 -- tag: how many keys a leaf has, k for an internal node; keys and children by index from 1; pending: 4·record + kind
 pub record View : Type 0 where
@@ -18,9 +18,9 @@ pub record In (top n : ℕ) : Type 0 where
   pub low : 1 ≤ n
   pub high : n ≤ top
 
--- the child for a key: the first i with x below key i, else the last
+-- the child for a key
 unfoldable pub route : ℕ → (ℕ → ℕ) → ℕ → ℕ
-route k f x = greaterAt x (listed f 1 (k - 1)) + 1
+route k f x = routeBy (listed f 1 (k - 1)) x
 
 -- of a node's words, its keys 1 to k - 1: what stands at another index is no key
 unfoldable pub keys-alone : ℕ → (ℕ → ℕ) → ℕ → ℕ

@@ -8,9 +8,9 @@ use lib.Dec.{ltb}
 use lib.ListN.{length, length-append}
 use borrow.Author.Tests.{le-leb, ltb-true, ltb-false}
 use Rattle.tables.specs.Choice.{both}
-use Rattle.script.specs.Text.{isDigit, decimal, valueFrom, valueOf}
+use Rattle.script.specs.Text.{isDigit, decimal, valueFrom}
 use Rattle.script.specs.Reading.{most}
-use Rattle.script.specs.Form.{All, none, also, Numeral}
+use Rattle.script.specs.Form.{All, none, also, Digits, Numeral}
 use Rattle.script.proofs.Buffers.{decimal-one, decimal-more}
 
 digit-good : (d : ℕ) → d < 10 → isDigit (48 + d) ≡ true
@@ -26,21 +26,15 @@ unfolding valueFrom
 value-more v [] d = refl
 value-more v (x ∷ xs) d = value-more (10 * v + (x - 48)) xs d
 
--- what holds of a number's digits: they are digits, and their value is the number
-record Digits (n : ℕ) (ds : List ℕ) : Type 0 where
-  some : 0 < length ds
-  digits : All isDigit ds
-  value : valueOf ds ≡ n
-
 one-digit : (n : ℕ) → n < 10 → Digits n ((48 + n) ∷ [])
 unfolding valueFrom
-one-digit n p = record { some = omega arith; digits = also (digit-good n p) none; value = omega arith }
+one-digit n p = record { some = omega arith; all = also (digit-good n p) none; value = omega arith }
 
 more-digits : (n : ℕ) (ds : List ℕ) → Digits (n / 10) ds → Digits n (ds ++ ((48 + n % 10) ∷ []))
 more-digits n ds d =
     record {
       some = rw (length-append ds ((48 + n % 10) ∷ [])) (omega arith);
-      digits = all-more isDigit ds (48 + n % 10) (d .digits) (digit-good (n % 10) (omega arith));
+      all = all-more isDigit ds (48 + n % 10) (d .all) (digit-good (n % 10) (omega arith));
       value = value-more 0 ds (48 + n % 10) ∙ rw (d .value) (omega arith);
     }
 
@@ -53,9 +47,7 @@ digits-good (suc f) n p = go (ltb n 10) refl (λ (h : 10 ≤ n). digits-good f (
     go false e r = let h : 10 ≤ n = ltb-false n 10 e in rw (decimal-more n h) (more-digits n (decimal (n / 10)) (r h))
 
 pub decimal-numeral : (n : ℕ) → n ≤ most → Numeral n (decimal n)
-decimal-numeral n p =
-    let d = digits-good n n (omega arith) in
-    record { some = d .some; digits = d .digits; value = d .value; fits = p }
+decimal-numeral n p = record { digits = digits-good n n (omega arith); fits = p }
 
 -- a number below a power of ten has at most so many digits
 decimal-short : (k n : ℕ) → n < 10 ^ suc k → length (decimal n) ≤ suc k

@@ -62,7 +62,7 @@ module _ (test : ℕ → Bool) where
 pub number-there : (n : ℕ) (ds l : List ℕ) → Numeral n ds → front isDigit l ≡ [] → numberIn (ds ++ l) ≡ found n l
 unfolding numberIn pick both
 number-there n ds l d s =
-    rw (front-all isDigit ds l (d .digits) s, behind-all isDigit ds l (d .digits) s, lt-ltb 0 (length ds) (d .some), d .value, le-leb n most (d .fits))
+    rw (front-all isDigit ds l (d .digits .all) s, behind-all isDigit ds l (d .digits .all) s, lt-ltb 0 (length ds) (d .digits .some), d .digits .value, le-leb n most (d .fits))
 
 pub op-there : (w l : List ℕ) → Word w → front inWord l ≡ [] → opIn (w ++ l) ≡ found (opOf w) l
 unfolding opIn pick
@@ -86,9 +86,7 @@ number-found l m = go (both (ltb 0 (length (front isDigit l))) (leb (valueOf (fr
         Numeral ((pick t (found (valueOf (front isDigit l)) (behind isDigit l)) missing) .value) (front isDigit l) × (l ≡ front isDigit l ++ m)
     go true e f = (
       record {
-        some = ltb-true 0 (length (front isDigit l)) (both-1 _ _ e);
-        digits = all-front isDigit l;
-        value = refl;
+        digits = record { some = ltb-true 0 (length (front isDigit l)) (both-1 _ _ e); all = all-front isDigit l; value = refl };
         fits = leb-true (valueOf (front isDigit l)) most (both-2 _ _ e);
       },
       sym (front-behind isDigit l) ∙ ap (λ (r : List ℕ). front isDigit l ++ r) (cc),

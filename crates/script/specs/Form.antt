@@ -14,11 +14,15 @@ pub data All (test : ℕ → Bool) : List ℕ → Type 0 where
   none : All test []
   also : {x : ℕ} {xs : List ℕ} → test x ≡ true → All test xs → All test (x ∷ xs)
 
--- one or more digits, leading zeros among them, whose value n fits 32 bits
-pub record Numeral (n : ℕ) (ds : List ℕ) : Type 0 where
+-- one or more digits, leading zeros among them, whose value is n
+pub record Digits (n : ℕ) (ds : List ℕ) : Type 0 where
   pub some : 0 < length ds
-  pub digits : All isDigit ds
+  pub all : All isDigit ds
   pub value : valueOf ds ≡ n
+
+-- and n fits 32 bits
+pub record Numeral (n : ℕ) (ds : List ℕ) : Type 0 where
+  pub digits : Digits n ds
   pub fits : n ≤ most
 
 -- one or more bytes that are neither space nor newline

@@ -20,15 +20,16 @@ use Rattle.tables.specs.declared.numbers.Refusal.the-variants.{ListTooShort, In
 use Rattle.tables.proofs.Picks.{either-some}
 use Rattle.tables.proofs.OneToOne.{none-accepts}
 use Rattle.walk.specs.Walk.{walked}
-use Rattle.walk.specs.Calls.{keysMet, listRest, listReasons, ListOut, listOut, listOf, partOf, anyWithin, rangeRest, rangeReasons, rangeOf}
+use Rattle.walk.specs.Calls.{keysMet, listRest, listReasons, ListOut, listOut, listOf, partOf, anyWithin, ClearOf, Between, rangeRest, rangeReasons, rangeOf}
 use Rattle.walk.specs.declared.Listed.the-variants.{Count, Refused as ListRefused}
 use Rattle.walk.specs.declared.Cleared.the-variants.{No, Yes, Refused as RangeRefused}
-use Rattle.walk.proofs.Answers.{one-listed, list-first-says, list-counts, range-first-says, Clear, Inside, any-inside, none-clear, clear-yes, range-inside-no, yes-clear, no-inside}
+use Rattle.walk.proofs.Answers.{one-listed, list-first-says, list-counts, range-first-says, Among, any-between, none-clear, clear-yes, range-between-no, yes-clear, no-between}
 use Rattle.history.proofs.Invariant.{Sound}
 use Rattle.link.specs.Tables.{tablesOf}
+use Rattle.link.specs.Sets.{Has}
 use Rattle.link.proofs.Writes.{Fit}
 use Rattle.link.proofs.Calls.{limits-good}
-use Rattle.survey.specs.Set.{Lists, ClearOf, Between}
+use Rattle.survey.specs.Set.{Lists}
 use Rattle.survey.proofs.Walks.{walk-sound, walk-keys, walk-rises}
 
 -- an answer is one thing
@@ -135,26 +136,23 @@ module _ {b : List ℕ} (fit : Fit (headerOf b) b) (I : Sound (headerOf b .k) (t
         range-fine : NoneHolds (rangeReasons b low high)
         range-fine = block-fine (rangeRest b h low high) (nor finite (nor (le-ltb high low l) (nor unharmed none)))
 
-        clear-keys : ClearOf b low high → Clear low high (keysMet b)
-        clear-keys c x m u v = c x u v (walk-keys fit I x .0 m)
+        pub range-yes : (rangeOf b low high ≡ Yes) ↔ ClearOf (Has b) low high
+        range-yes = (λ e x u v s. yes-clear b low high e .1 x u v (walk-keys fit I x .1 s), λ c. clear-yes b low high range-fine (λ x u v m. c x u v (walk-keys fit I x .0 m)))
 
-        pub range-yes : (rangeOf b low high ≡ Yes) ↔ ClearOf b low high
-        range-yes = (λ e x u v s. yes-clear b low high e .1 x (walk-keys fit I x .1 s) u v, λ c. clear-yes b low high range-fine (clear-keys c))
-
-        pub range-no : (rangeOf b low high ≡ No) ↔ Between b low high
-        range-no = (λ e. out (no-inside b low high e .1), λ i. range-inside-no b low high range-fine (into i))
+        pub range-no : (rangeOf b low high ≡ No) ↔ Between (Has b) low high
+        range-no = (λ e. out (no-between b low high e .1), λ i. range-between-no b low high range-fine (into i))
           where
-            out : Inside low high (keysMet b) → Between b low high
-            out i = record { key = i .key; held = walk-keys fit I (i .key) .0 (i .has); from = i .from; to = i .to }
+            out : Between (Among (keysMet b)) low high → Between (Has b) low high
+            out i = record { key = i .key; held = walk-keys fit I (i .key) .0 (i .held); from = i .from; to = i .to }
 
-            into : Between b low high → Inside low high (keysMet b)
-            into i = record { key = i .key; has = walk-keys fit I (i .key) .1 (i .held); from = i .from; to = i .to }
+            into : Between (Has b) low high → Between (Among (keysMet b)) low high
+            into i = record { key = i .key; held = walk-keys fit I (i .key) .1 (i .held); from = i .from; to = i .to }
 
         pub range-answers : (rangeOf b low high ≡ Yes) ⊎ (rangeOf b low high ≡ No)
         range-answers = go (anyWithin low high (keysMet b)) refl
           where
             go : (t : Bool) → anyWithin low high (keysMet b) ≡ t → (rangeOf b low high ≡ Yes) ⊎ (rangeOf b low high ≡ No)
-            go true e = inr (range-inside-no b low high range-fine (any-inside low high (keysMet b) e))
+            go true e = inr (range-between-no b low high range-fine (any-between low high (keysMet b) e))
             go false e = inl (clear-yes b low high range-fine (none-clear low high (keysMet b) e))
 
     -- refused only 6, for an end that is infinity, and 10, for low above high

@@ -34,9 +34,12 @@ greaterAt x ks = firstAt (λ y. ltb x y) ks
 abbrev pub equalAt : ℕ → List ℕ → ℕ
 equalAt x ks = firstAt (λ y. eqb x y) ks
 
--- "the first i with key below key i, else child k"
+-- "the first i with key below key i, else child k", by the keys of a node
+abbrev pub routeBy : List ℕ → ℕ → ℕ
+routeBy ks x = greaterAt x ks + 1
+
 abbrev pub routeOf : List ℕ → Header → ℕ → ℕ → ℕ
-routeOf b h node x = greaterAt x (keysOf b h node (h .k - 1)) + 1
+routeOf b h node x = routeBy (keysOf b h node (h .k - 1)) x
 
 -- "The new key goes before the first greater key."
 abbrev pub putIn : ℕ → List ℕ → List ℕ

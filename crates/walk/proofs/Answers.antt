@@ -14,7 +14,7 @@ use Rattle.tables.specs.declared.numbers.Refusal.{Refusal}
 use Rattle.tables.proofs.OneToOne.{refusal-number, none-accepts, tells, accepted-none, first-answers, answers-first}
 use Rattle.tables.proofs.Picks.{either-some, within-low, within-high}
 use Rattle.walk.specs.Answer.{answered, refusedBy, listedSays, clearedSays, cleared}
-use Rattle.walk.specs.Calls.{keysMet, listReasons, ListOut, listOut, listOf, partOf, anyWithin, rangeReasons, rangeOf}
+use Rattle.walk.specs.Calls.{keysMet, listReasons, ListOut, listOut, listOf, partOf, anyWithin, ClearOf, Between, rangeReasons, rangeOf}
 use Rattle.walk.specs.Passes.{filledOf}
 use Rattle.walk.specs.declared.Listed.{Listed}
 use Rattle.walk.specs.declared.Listed.the-variants.{Count, Refused as ListRefused}
@@ -121,54 +121,48 @@ module _ (b : List ℕ) (low high : ℕ) where
   pub range-first-says : (e : Refusal) → First (numberOf e) (rangeReasons b low high) → rangeOf b low high ≡ RangeRefused e
   range-first-says e = first-answers RangeRefused yes-or-no (rangeReasons b low high) e
 
--- no key of a list lies from low to high; one does
-abbrev pub Clear : ℕ → ℕ → List ℕ → Type 0
-Clear low high ks = (x : ℕ) → List·Memᴰ x ks → low ≤ x → x ≤ high → ⊥
-
-pub record Inside (low high : ℕ) (ks : List ℕ) : Type 0 where
-  pub key : ℕ
-  pub has : List·Memᴰ key ks
-  pub from : low ≤ key
-  pub to : key ≤ high
+-- the keys of a list, as a set
+abbrev pub Among : List ℕ → ℕ → Type 0
+Among ks x = List·Memᴰ x ks
 
 module _ (low high : ℕ) where
-  pub any-inside : (ks : List ℕ) → anyWithin low high ks ≡ true → Inside low high ks
+  pub any-between : (ks : List ℕ) → anyWithin low high ks ≡ true → Between (Among ks) low high
   unfolding anyWithin pick
-  any-inside [] e = let z : _≡_ {A = ℕ} 0 1 = cc in absurd (omega arith)
-  any-inside (x ∷ xs) e = go (within low x high) refl e (any-inside xs)
+  any-between [] e = let z : _≡_ {A = ℕ} 0 1 = cc in absurd (omega arith)
+  any-between (x ∷ xs) e = go (within low x high) refl e (any-between xs)
     where
-      go : (t : Bool) → within low x high ≡ t → either t (anyWithin low high xs) ≡ true → (anyWithin low high xs ≡ true → Inside low high xs) → Inside low high (x ∷ xs)
-      go true w f up = record { key = x; has = List·Memᴰ·head refl; from = within-low low x high w; to = within-high low x high w }
-      go false w f up = let i = up f in record { key = i .key; has = List·Memᴰ·tail (i .has); from = i .from; to = i .to }
+      go : (t : Bool) → within low x high ≡ t → either t (anyWithin low high xs) ≡ true → (anyWithin low high xs ≡ true → Between (Among xs) low high) → Between (Among (x ∷ xs)) low high
+      go true w f up = record { key = x; held = List·Memᴰ·head refl; from = within-low low x high w; to = within-high low x high w }
+      go false w f up = let i = up f in record { key = i .key; held = List·Memᴰ·tail (i .held); from = i .from; to = i .to }
 
-  inside-any : (x : ℕ) (ks : List ℕ) → List·Memᴰ x ks → low ≤ x → x ≤ high → anyWithin low high ks ≡ true
+  between-any : (x : ℕ) (ks : List ℕ) → List·Memᴰ x ks → low ≤ x → x ≤ high → anyWithin low high ks ≡ true
   unfolding anyWithin pick both
-  inside-any x (y ∷ ys) (List·Memᴰ·head e) p q = rw (← e, le-leb low x p, le-leb x high q) refl
-  inside-any x (y ∷ ys) (List·Memᴰ·tail m) p q = either-some (within low y high) (anyWithin low high ys) (inr (inside-any x ys m p q))
+  between-any x (y ∷ ys) (List·Memᴰ·head e) p q = rw (← e, le-leb low x p, le-leb x high q) refl
+  between-any x (y ∷ ys) (List·Memᴰ·tail m) p q = either-some (within low y high) (anyWithin low high ys) (inr (between-any x ys m p q))
 
-  pub none-clear : (ks : List ℕ) → anyWithin low high ks ≡ false → Clear low high ks
-  none-clear ks e x m p q = let z = sym (inside-any x ks m p q) ∙ e in let n : _≡_ {A = ℕ} 0 1 = cc in omega arith
+  pub none-clear : (ks : List ℕ) → anyWithin low high ks ≡ false → ClearOf (Among ks) low high
+  none-clear ks e x p q m = let z = sym (between-any x ks m p q) ∙ e in let n : _≡_ {A = ℕ} 0 1 = cc in omega arith
 
-  pub clear-none : (ks : List ℕ) → Clear low high ks → anyWithin low high ks ≡ false
+  pub clear-none : (ks : List ℕ) → ClearOf (Among ks) low high → anyWithin low high ks ≡ false
   clear-none ks c = go (anyWithin low high ks) refl
     where
       go : (t : Bool) → anyWithin low high ks ≡ t → anyWithin low high ks ≡ false
       go false e = e
-      go true e = let i = any-inside ks e in absurd (c (i .key) (i .has) (i .from) (i .to))
+      go true e = let i = any-between ks e in absurd (c (i .key) (i .from) (i .to) (i .held))
 
 -- "Clear-of-range answers yes exactly when no key of the set lies from low to high, ends included", where no reason to refuse holds
 module _ (b : List ℕ) (low high : ℕ) where
-  pub clear-yes : NoneHolds (rangeReasons b low high) → Clear low high (keysMet b) → rangeOf b low high ≡ Yes
+  pub clear-yes : NoneHolds (rangeReasons b low high) → ClearOf (Among (keysMet b)) low high → rangeOf b low high ≡ Yes
   unfolding pick
   clear-yes n c =
       none-accepts (λ m. RangeRefused (refusal m)) (yes-or-no b low high) (rangeReasons b low high) n
       ∙ ap (λ (t : Bool). cleared (pick t 0 1)) (clear-none low high (keysMet b) c)
 
-  pub range-inside-no : NoneHolds (rangeReasons b low high) → Inside low high (keysMet b) → rangeOf b low high ≡ No
+  pub range-between-no : NoneHolds (rangeReasons b low high) → Between (Among (keysMet b)) low high → rangeOf b low high ≡ No
   unfolding pick
-  range-inside-no n i =
+  range-between-no n i =
       none-accepts (λ m. RangeRefused (refusal m)) (yes-or-no b low high) (rangeReasons b low high) n
-      ∙ ap (λ (t : Bool). cleared (pick t 0 1)) (inside-any low high (i .key) (keysMet b) (i .has) (i .from) (i .to))
+      ∙ ap (λ (t : Bool). cleared (pick t 0 1)) (between-any low high (i .key) (keysMet b) (i .held) (i .from) (i .to))
 
   -- what yes and no tell
   told-range : (v : Verdict) (t : Bool) (r : Cleared) → told (λ m. RangeRefused (refusal m)) (cleared (pick t 0 1)) v ≡ r → ((e : Refusal) → r ≡ RangeRefused e → ⊥) →
@@ -191,12 +185,12 @@ module _ (b : List ℕ) (low high : ℕ) where
   no-true true e = refl
   no-true false e = let z : _≡_ {A = ℕ} 0 1 = cc in absurd (omega arith)
 
-  pub yes-clear : rangeOf b low high ≡ Yes → NoneHolds (rangeReasons b low high) × Clear low high (keysMet b)
+  pub yes-clear : rangeOf b low high ≡ Yes → NoneHolds (rangeReasons b low high) × ClearOf (Among (keysMet b)) low high
   yes-clear e =
       let p = answer-tells Yes e (λ d q. let z : _≡_ {A = ℕ} 0 1 = cc in omega arith) in
       (p .0, none-clear low high (keysMet b) (yes-false (anyWithin low high (keysMet b)) (p .1)))
 
-  pub no-inside : rangeOf b low high ≡ No → NoneHolds (rangeReasons b low high) × Inside low high (keysMet b)
-  no-inside e =
+  pub no-between : rangeOf b low high ≡ No → NoneHolds (rangeReasons b low high) × Between (Among (keysMet b)) low high
+  no-between e =
       let p = answer-tells No e (λ d q. let z : _≡_ {A = ℕ} 0 1 = cc in omega arith) in
-      (p .0, any-inside low high (keysMet b) (no-true (anyWithin low high (keysMet b)) (p .1)))
+      (p .0, any-between low high (keysMet b) (no-true (anyWithin low high (keysMet b)) (p .1)))

@@ -1,5 +1,5 @@
 -- Listing, its twin and range: when each is refused, and what it answers and leaves.
-use Prim.Native.Nat.{ℕ}
+use Prim.Native.Nat.{ℕ, _≤_}
 use mathlib.Core.Bool.{Bool, false, not}
 use mathlib.Core.List.{List, [], _∷_, _++_}
 use lib.Dec.{ltb, eqb}
@@ -50,6 +50,16 @@ partOf b list = decide (listReasons b (length list)) (λ n. []) (keysMet b)
 unfoldable pub anyWithin : ℕ → ℕ → List ℕ → Bool
 anyWithin low high [] = false
 anyWithin low high (x ∷ xs) = either (within low x high) (anyWithin low high xs)
+
+-- of a set, by what is in it: no key of it lies from low to high, ends included; one does
+abbrev pub ClearOf : (ℕ → Type 0) → ℕ → ℕ → Type 0
+ClearOf set low high = (x : ℕ) → low ≤ x → x ≤ high → ¬ set x
+
+pub record Between (set : ℕ → Type 0) (low high : ℕ) : Type 0 where
+  pub key : ℕ
+  pub held : set key
+  pub from : low ≤ key
+  pub to : key ≤ high
 
 -- "range 6, 10, 3", after the reasons of the block
 abbrev pub rangeRest : List ℕ → Header → ℕ → ℕ → List Reason
