@@ -14,9 +14,14 @@ use Rattle.process.specs.Answer.{refusedAs}
 use Rattle.process.specs.declared.Process.{Process}
 use Rattle.process.specs.declared.Stepped.{Stepped}
 use Rattle.damage.specs.Helped.{recordGood, helpedGood}
-use Rattle.help.specs.Touch.{Out, out, rowDone}
+use Rattle.help.specs.Touch.{Row, out, rowDone}
 use Rattle.help.specs.Rows.{row6, row7, row8, row9, row10, row11, row12, row13, row14, noRow, helpRow, helpedDone, recordHelped}
 use Rattle.help.proofs.Rowed.{row-not}
+
+-- below 6 no record is helped, and none is checked
+pub none-helped : (b : List ℕ) (h : Header) (q : Process) (row : Row) → q .point < 6 → helpedDone b h q row ≡ rowDone b q row
+unfolding helpedDone helpedGood
+none-helped b h q row p = pick-true (pick (ltb (q .point) 6) true _) _ _ (pick-true (ltb (q .point) 6) true _ (lt-ltb (q .point) 6 p))
 
 module _ (b : List ℕ) (h : Header) (n : ℕ) (q : Process) where
   pub help-at-6 : q .point ≡ 6 → helpRow b h n q ≡ row6 b h q
@@ -108,12 +113,10 @@ module _ (b : List ℕ) (h : Header) (n : ℕ) (q : Process) where
     pub at-none : (q .point ≡ 6 → ⊥) → (q .point ≡ 7 → ⊥) → (q .point ≡ 8 → ⊥) → (q .point ≡ 9 → ⊥) → (q .point ≡ 10 → ⊥) → (q .point ≡ 11 → ⊥) → (q .point ≡ 12 → ⊥) → (q .point ≡ 13 → ⊥) → (q .point ≡ 14 → ⊥) → out s b ≡ rowDone b q (helpRow b h n q)
     at-none f6 f7 f8 f9 f10 f11 f12 f13 f14 = not-a-row ∙ ap (rowDone b q) (sym (no-help f6 f7 f8 f9 f10 f11 f12 f13 f14))
 
-    -- and none below 6 is checked
     pub record-none : q .point < 6 → out s b ≡ recordHelped b h n q
-    unfolding helpedDone helpedGood
     record-none p =
         at-none (λ z. omega arith) (λ z. omega arith) (λ z. omega arith) (λ z. omega arith) (λ z. omega arith) (λ z. omega arith) (λ z. omega arith) (λ z. omega arith) (λ z. omega arith)
-        ∙ sym (pick-true (pick (ltb (q .point) 6) true _) _ _ (pick-true (ltb (q .point) 6) true _ (lt-ltb (q .point) 6 p)))
+        ∙ sym (none-helped b h q (helpRow b h n q) p)
 
   -- the record helped is checked, and then its row is done
   module _ (s : Stepped) (t : Bool) (e : t ≡ helpedGood b h q) where

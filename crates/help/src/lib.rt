@@ -1,4 +1,5 @@
 // Helping: where a pending value sends a process, how help ends, and points 6 to 14, which carry the record helped through.
+// No public function asks anything of its caller.
 ghost use mathlib.Core.Path.{_≡_};
 ghost use lib.Dec.{eqb};
 ghost use lib.ListN.{set};
@@ -10,6 +11,9 @@ ghost use Rattle.help.specs.Touch.{out};
 ghost use Rattle.help.specs.Help.{topOf, helpEnded, topGood, helpGood};
 ghost use Rattle.help.specs.Help.{helping as helpingOf};
 ghost use Rattle.help.specs.Rows.{nonEmpty, recordHelped};
+
+mod finish;
+
 use process::Answer;
 use process::Process;
 use process::Stepped;
@@ -20,8 +24,6 @@ use tables::numbers::Refusal;
 use tables::pending;
 use tables::pending::Pending;
 use tables::words;
-
-mod finish;
 
 pub fn damaged(q: Process) -> Stepped
     ensures { λ r. ⌜ r ≡ refusedAs q (refusal 3) ⌝ }

@@ -4,7 +4,6 @@ use mathlib.Core.Path.{_≡_, refl, sym, ap, _∙_}
 use mathlib.Core.Bool.{Bool, true, false, not}
 use mathlib.Core.List.{List}
 use native.Mathlib.Omega.{arith}
-use lib.Dec.{ltb}
 use borrow.Author.Tests.{leb-true, lt-ltb, le-ltb, eq-eqb, ne-eqb}
 use Rattle.tables.specs.Choice.{pick, both, within}
 use Rattle.tables.specs.Numbers.{infinity}
@@ -18,7 +17,7 @@ use Rattle.tables.specs.declared.numbers.Refusal.{Refusal}
 use Rattle.tables.specs.declared.numbers.Refusal.the-variants.{TooShort, NoSuchProcess, UnknownOperation, InfinityGiven, Busy, Idle}
 use Rattle.tables.specs.declared.pending.Pending.{Pending}
 use Rattle.tables.specs.declared.pending.Pending.the-variants.{Clean, Replace, Prune, Mark}
-use Rattle.tables.proofs.Picks.{both-1, both-2, pick-true, within-high}
+use Rattle.tables.proofs.Picks.{both-1, both-2, within-high}
 use Rattle.tables.proofs.Limits.{Limits, limits, read-header, read-limits, read-refuses, read-accepts}
 use Rattle.process.specs.Process.{startedAs}
 use Rattle.process.specs.Answer.{refusedAs}
@@ -29,7 +28,7 @@ use Rattle.damage.specs.Helped.{helpedGood}
 use Rattle.help.specs.Touch.{Row, Out, out, rowDone}
 use Rattle.help.specs.Rows.{row6, row7, row8, row9, row10, row11, row12, row13, row14, noRow, helpRow, helpedDone, recordHelped}
 use Rattle.help.proofs.Rowed.{at-row, each-help}
-use Rattle.help.proofs.Records.{help-at-6, help-at-7, help-at-8, help-at-9, help-at-10, help-at-11, help-at-12, help-at-13, help-at-14}
+use Rattle.help.proofs.Records.{none-helped, help-at-6, help-at-7, help-at-8, help-at-9, help-at-10, help-at-11, help-at-12, help-at-13, help-at-14}
 use Rattle.points.specs.Rows.{row1, row2, row3, row4, row5, rowOf}
 use Rattle.points.specs.Step.{stepRefused, stepDone, stepOf, soundStep, started, startOf}
 use Rattle.points.specs.Parts.{Ready, stepGood, startKnown, startGood}
@@ -105,26 +104,21 @@ module _ (b : List ℕ) (h : Header) (n : ℕ) (q : Process) where
   pub row-at-14 : q .point ≡ 14 → rowOf b h n q ≡ row14 b h n q
   row-at-14 e = row-late (omega arith) ∙ help-at-14 b h n q e
 
-  -- below 6 no record is helped
-  none-helped : (row : Row) → q .point < 6 → rowDone b q row ≡ helpedDone b h q row
-  unfolding helpedDone helpedGood
-  none-helped row p = sym (pick-true (pick (ltb (q .point) 6) true _) _ _ (pick-true (ltb (q .point) 6) true _ (lt-ltb (q .point) 6 p)))
-
   module _ (s : Stepped) (e : List ℕ) where
     pub at-1 : q .point ≡ 1 → out s e ≡ rowDone b q (row1 b h q) → out s e ≡ helpedDone b h q (rowOf b h n q)
-    at-1 f g = g ∙ ap (rowDone b q) (sym (row-at-1 f)) ∙ none-helped (rowOf b h n q) (omega arith)
+    at-1 f g = g ∙ ap (rowDone b q) (sym (row-at-1 f)) ∙ sym (none-helped b h q (rowOf b h n q) (omega arith))
 
     pub at-2 : q .point ≡ 2 → out s e ≡ rowDone b q (row2 b h q) → out s e ≡ helpedDone b h q (rowOf b h n q)
-    at-2 f g = g ∙ ap (rowDone b q) (sym (row-at-2 f)) ∙ none-helped (rowOf b h n q) (omega arith)
+    at-2 f g = g ∙ ap (rowDone b q) (sym (row-at-2 f)) ∙ sym (none-helped b h q (rowOf b h n q) (omega arith))
 
     pub at-3 : q .point ≡ 3 → out s e ≡ rowDone b q (row3 b h q) → out s e ≡ helpedDone b h q (rowOf b h n q)
-    at-3 f g = g ∙ ap (rowDone b q) (sym (row-at-3 f)) ∙ none-helped (rowOf b h n q) (omega arith)
+    at-3 f g = g ∙ ap (rowDone b q) (sym (row-at-3 f)) ∙ sym (none-helped b h q (rowOf b h n q) (omega arith))
 
     pub at-4 : q .point ≡ 4 → out s e ≡ rowDone b q (row4 b h n q) → out s e ≡ helpedDone b h q (rowOf b h n q)
-    at-4 f g = g ∙ ap (rowDone b q) (sym (row-at-4 f)) ∙ none-helped (rowOf b h n q) (omega arith)
+    at-4 f g = g ∙ ap (rowDone b q) (sym (row-at-4 f)) ∙ sym (none-helped b h q (rowOf b h n q) (omega arith))
 
     pub at-5 : q .point ≡ 5 → out s e ≡ rowDone b q (row5 b h n q) → out s e ≡ helpedDone b h q (rowOf b h n q)
-    at-5 f g = g ∙ ap (rowDone b q) (sym (row-at-5 f)) ∙ none-helped (rowOf b h n q) (omega arith)
+    at-5 f g = g ∙ ap (rowDone b q) (sym (row-at-5 f)) ∙ sym (none-helped b h q (rowOf b h n q) (omega arith))
 
     pub at-past : (q .point ≡ 1 → ⊥) → (q .point ≡ 2 → ⊥) → (q .point ≡ 3 → ⊥) → (q .point ≡ 4 → ⊥) → (q .point ≡ 5 → ⊥) → out s e ≡ recordHelped b h n q → out s e ≡ helpedDone b h q (rowOf b h n q)
     at-past f1 f2 f3 f4 f5 g = g ∙ ap (helpedDone b h q) (sym (row-past f1 f2 f3 f4 f5))
