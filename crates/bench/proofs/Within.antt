@@ -4,7 +4,7 @@ use mathlib.Core.Path.{_≡_}
 use mathlib.Core.List.{List}
 use native.Mathlib.Omega.{arith}
 use lib.ListN.{length, drop, length-drop}
-use Rattle.script.specs.Text.{front}
+use Rattle.print.specs.Text.{front}
 use Rattle.script.proofs.Runs.{front-short}
 use Rattle.session.specs.Cut.{inLine}
 

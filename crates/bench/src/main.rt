@@ -59,7 +59,7 @@ fn take_part(
     requires { ⌜ r .kept ≤ length (now held) ⌝ }
     ensures { λ a. ⌜ a .kept ≤ length (now (held .exit)) ⌝ }
 {
-    let kept = script::write::put_bytes(held, r.kept, part);
+    let kept = print::write::put_bytes(held, r.kept, part);
     let s = r.session;
     if ends {
         let session = take_line(block, list, out, &held[..kept], s);

@@ -2,12 +2,12 @@
 use fresh::Made;
 use index::held;
 use libc::STDOUT_FILENO;
+use print::lines::Making;
+use print::lines::StartLine;
+use print::lines::StepLine;
+use print::write;
 use process::Process;
 use script::lines::Line;
-use script::lines::Making;
-use script::lines::StartLine;
-use script::lines::StepLine;
-use script::write;
 use session::line;
 use session::line::Said;
 use session::text;

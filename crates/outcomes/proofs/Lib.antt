@@ -8,6 +8,7 @@ pub mod Draws
 pub mod Help
 pub mod Points
 pub mod Walk
+pub mod Print
 pub mod Script
 pub mod Index
 pub mod Session

@@ -1,7 +1,7 @@
 -- One outcome for every public function of `session`: what a line does.
 use Rattle.outcomes.specs.Outcome.{OneOutcome}
 use Rattle.outcomes.proofs.Law.{one, codes}
-use Rattle.script.specs.Writing.{Out}
+use Rattle.print.specs.Writing.{Out}
 use Rattle.session.specs.Line.{Done}
 use Rattle.session.proofs.cut.line_end
 use Rattle.session.proofs.line.begin

@@ -8,10 +8,10 @@ use lib.Dec.{ltb}
 use lib.ListN.{length, length-append}
 use borrow.Author.Tests.{le-leb, ltb-true, ltb-false}
 use Rattle.tables.specs.Choice.{both}
-use Rattle.script.specs.Text.{isDigit, decimal, valueFrom}
+use Rattle.print.specs.Text.{isDigit, decimal, valueFrom}
 use Rattle.script.specs.Reading.{most}
 use Rattle.script.specs.Form.{All, none, also, Digits, Numeral}
-use Rattle.script.proofs.Buffers.{decimal-one, decimal-more}
+use Rattle.print.proofs.Buffers.{decimal-one, decimal-more}
 
 digit-good : (d : ℕ) → d < 10 → isDigit (48 + d) ≡ true
 unfolding both

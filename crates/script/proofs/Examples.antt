@@ -3,9 +3,9 @@ use mathlib.Core.Path.{_≡_, refl}
 use mathlib.Core.List.{List, [], _∷_, _++_}
 use lib.ListN.{replicate}
 use Rattle.tables.specs.Choice.{pick, both}
-use Rattle.script.specs.Text.{bytes, front, behind, valueFrom, digitsOf, decimal}
+use Rattle.print.specs.Text.{bytes, front, behind, valueFrom, digitsOf, decimal}
 use Rattle.script.specs.Reading.{expect, literal, ended, numberIn, opOf, opIn, field, opBehind, lineOf}
-use Rattle.script.specs.Writing.{named, opField, answerField, answerLine, refusedLine, countLine, keyLine, out, written}
+use Rattle.print.specs.Writing.{named, opField, answerField, answerLine, refusedLine, countLine, keyLine, out, written}
 use Rattle.script.specs.declared.lines.Line.the-variants as Line
 
 -- the lines of the example

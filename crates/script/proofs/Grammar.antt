@@ -10,7 +10,7 @@ use lib.ListN.{length}
 use borrow.Author.Tests.{lt-ltb, le-ltb, le-leb, leb-true, ltb-true, ltb-false, eq-eqb, eqb-true}
 use Rattle.tables.specs.Choice.{pick, both}
 use Rattle.tables.proofs.Picks.{both-1, both-2}
-use Rattle.script.specs.Text.{bytes, isDigit, inWord, front, behind, valueOf}
+use Rattle.print.specs.Text.{bytes, isDigit, inWord, front, behind, valueOf}
 use Rattle.script.specs.Reading.{Left, left, bad, expect, literal, ended, found, missing, most, numberIn, number, opOf, opIn, op, field, opBehind, atEnd}
 use Rattle.script.specs.Reading.{makingFrom, makingWithK, startOf, stepsOf, listOf, firstOf, longest, lineOf}
 use Rattle.script.specs.Form.{All, none, also, Numeral, Word, InForm, making, making-without-k, start, steps, list}

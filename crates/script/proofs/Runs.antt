@@ -8,7 +8,7 @@ use native.Mathlib.Nat.{le-trans}
 use lib.ListN.{length, take, drop, length-drop, length-take, take-append-drop}
 use lib.Seq.{drop-drop}
 use Rattle.tables.specs.Choice.{pick}
-use Rattle.script.specs.Text.{front, behind, valueFrom}
+use Rattle.print.specs.Text.{front, behind, valueFrom}
 
 module _ (test : ℕ → Bool) where
   -- a list is its front and what lies behind it

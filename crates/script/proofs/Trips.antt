@@ -10,16 +10,16 @@ use lib.ListN.{length, take, drop, set, length-append, length-set}
 use lib.Seq.{sets, sets-eq, take-at, drop-at, length-take-le}
 use borrow.Author.Tests.{lt-ltb, ltb-true}
 use Rattle.tables.specs.Choice.{pick}
-use Rattle.script.specs.Text.{bytes, decimal}
+use Rattle.print.specs.Text.{bytes, decimal}
 use Rattle.script.specs.Reading.{most, opOf, expect, ended, longest, lineOf}
 use Rattle.script.specs.Form.{Word, none, also, making, making-without-k, start, steps, list}
-use Rattle.script.specs.Writing.{named, opWord, opField, answerWord, answerField, answerLine, refusedLine, countLine, keyLine}
-use Rattle.script.specs.Writing.{plainMakingText, makingText, startText, stepsText, listText, Out, out, written}
-use Rattle.script.specs.declared.lines.Making.{Making}
-use Rattle.script.specs.declared.lines.StartLine.{StartLine}
-use Rattle.script.specs.declared.lines.StepLine.{StepLine}
-use Rattle.script.specs.declared.lines.AnswerLine.{AnswerLine}
-use Rattle.script.specs.declared.lines.CountLine.{CountLine}
+use Rattle.print.specs.Writing.{named, opWord, opField, answerWord, answerField, answerLine, refusedLine, countLine, keyLine}
+use Rattle.print.specs.Writing.{plainMakingText, makingText, startText, stepsText, listText, Out, out, written}
+use Rattle.print.specs.declared.lines.Making.{Making}
+use Rattle.print.specs.declared.lines.StartLine.{StartLine}
+use Rattle.print.specs.declared.lines.StepLine.{StepLine}
+use Rattle.print.specs.declared.lines.AnswerLine.{AnswerLine}
+use Rattle.print.specs.declared.lines.CountLine.{CountLine}
 use Rattle.script.specs.declared.lines.Line.{Line}
 use Rattle.script.specs.declared.lines.Line.the-variants as Line
 use Rattle.script.proofs.Grammar.{in-form-read}

@@ -9,7 +9,7 @@ use lib.ListN.{length, getD, take, drop, drop-of-length-le}
 use borrow.Author.Tests.{lt-ltb, le-ltb, le-leb, lt-leb, eq-eqb, ne-eqb}
 use Rattle.tables.specs.Choice.{pick, both}
 use Rattle.tables.proofs.Lists.{from-here}
-use Rattle.script.specs.Text.{bytes, isDigit, inWord, front, valueFrom, valueOf}
+use Rattle.print.specs.Text.{bytes, isDigit, inWord, front, valueFrom, valueOf}
 use Rattle.script.specs.Reading.{Left, left, bad, expect, ended, most, literal, field, numberIn, isWord, opOf, opIn, opBehind, makingFrom, makingWithK, startOf, stepsOf, listOf, firstOf, longest, lineOf}
 use Rattle.script.specs.Position.{leftAt, foundAt, belongsTo, valueIn}
 use Rattle.script.specs.declared.lines.Line.{Line}

@@ -4,7 +4,7 @@ use mathlib.Core.Path.{_≡_}
 use mathlib.Core.Bool.{Bool, true}
 use mathlib.Core.List.{List, [], _∷_, _++_}
 use lib.ListN.{length}
-use Rattle.script.specs.Text.{bytes, isDigit, inWord, valueOf}
+use Rattle.print.specs.Text.{bytes, isDigit, inWord, valueOf}
 use Rattle.script.specs.Reading.{most, opOf}
 use Rattle.script.specs.declared.lines.Line.{Line}
 use Rattle.script.specs.declared.lines.Line.the-variants as Line

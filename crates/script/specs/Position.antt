@@ -5,7 +5,7 @@ use mathlib.Core.List.{List}
 use lib.Dec.{leb}
 use lib.ListN.{drop}
 use Rattle.tables.specs.Choice.{pick}
-use Rattle.script.specs.Text.{isDigit, inWord, valueOf}
+use Rattle.print.specs.Text.{isDigit, inWord, valueOf}
 use Rattle.script.specs.Reading.{Left, left, bad, most}
 use Rattle.script.specs.Reading as reading
 use Rattle.script.specs.declared.read.Next.{Next}

@@ -5,7 +5,7 @@ use mathlib.Core.List.{List, [], _∷_}
 use lib.Dec.{leb, ltb, eqb}
 use lib.ListN.{length}
 use Rattle.tables.specs.Choice.{pick, both}
-use Rattle.script.specs.Text.{bytes, isDigit, inWord, front, behind, valueOf}
+use Rattle.print.specs.Text.{bytes, isDigit, inWord, front, behind, valueOf}
 use Rattle.script.specs.declared.lines.Line.{Line}
 use Rattle.script.specs.declared.lines.Line.the-variants as Line
 

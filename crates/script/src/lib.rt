@@ -1,4 +1,3 @@
-// The lines of the bench, both ways: a line of bytes read as what it asks for, and what is to be printed written as bytes.
+// The lines of the bench's script, from bytes: a line read as what it asks for.
 pub mod lines;
 pub mod read;
-pub mod write;

@@ -1,22 +1,7 @@
-// What a line of the script asks for, and what a line of the bench's answer says. Numbers are those of document 01.
-pub struct Making {
-    pub k: u32,
-    pub processes: u32,
-    pub nodes: u32,
-    pub records: u32,
-}
-
-// The operation is 1 find, 2 insert, 3 delete, and 0 where the word is none of these: the call then refuses it.
-pub struct StartLine {
-    pub process: u32,
-    pub op: u32,
-    pub key: u32,
-}
-
-pub struct StepLine {
-    pub process: u32,
-    pub times: u32,
-}
+// What a line of the script asks for.
+use print::lines::Making;
+use print::lines::StartLine;
+use print::lines::StepLine;
 
 pub enum Line {
     Making(Making),
@@ -24,19 +9,4 @@ pub enum Line {
     Steps(StepLine),
     List,
     NotInForm,
-}
-
-// The answer is 0 no, 1 yes, 2 full.
-pub struct AnswerLine {
-    pub process: u32,
-    pub op: u32,
-    pub key: u32,
-    pub answer: u32,
-    pub steps: u32,
-}
-
-pub struct CountLine {
-    pub count: u32,
-    pub nodes: u32,
-    pub records: u32,
 }

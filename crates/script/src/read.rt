@@ -2,7 +2,7 @@
 ghost use mathlib.Core.Path.{_≡_};
 ghost use Prim.Native.Nat.{_+_, _-_};
 ghost use lib.ListN.{length, drop};
-ghost use Rattle.script.specs.Text.{front, isDigit, inWord};
+ghost use Rattle.print.specs.Text.{front, isDigit, inWord};
 ghost use Rattle.script.specs.Reading.{expect, isWord, numberIn, opIn, opBehind, makingWithK, makingFrom, startOf, stepsOf, listOf, lineOf};
 ghost use Rattle.script.specs.Reading.{literal as literalOf};
 ghost use Rattle.script.specs.Reading.{field as fieldOf};
@@ -11,9 +11,9 @@ ghost use Rattle.script.specs.Reading.{firstOf as firstOfLines};
 ghost use Rattle.script.specs.Reading.{opOf as opOfWord};
 ghost use Rattle.script.specs.Position.{leftAt, foundAt, belongsTo, valueIn};
 use crate::lines::Line;
-use crate::lines::Making;
-use crate::lines::StartLine;
-use crate::lines::StepLine;
+use print::lines::Making;
+use print::lines::StartLine;
+use print::lines::StepLine;
 
 // A longer line is not in its form.
 pub const LONGEST: usize = 4096;

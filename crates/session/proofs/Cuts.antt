@@ -8,7 +8,7 @@ use lib.ListN.{length, getD, drop, drop-of-length-le}
 use lib.Seq.{drop-cons}
 use borrow.Author.Tests.{eq-eqb, ne-eqb}
 use Rattle.tables.specs.Choice.{pick}
-use Rattle.script.specs.Text.{front, newline}
+use Rattle.print.specs.Text.{front, newline}
 use Rattle.session.specs.Cut.{inLine}
 
 module _ (piece : List ℕ) (e i : ℕ) (inv : e ≡ i + length (front inLine (drop i piece))) where

@@ -8,10 +8,10 @@ use lib.ListN.{length, getD, take, drop, drop-of-length-le}
 use lib.Seq.{drop-cons, take-all}
 use Rattle.tables.specs.Refusal.{numberOf}
 use Rattle.tables.specs.declared.numbers.Refusal.{Refusal}
-use Rattle.script.specs.Writing.{Out, out, written, keyLine, answerLine, refusedLine, countLine}
-use Rattle.script.specs.declared.lines.AnswerLine.{AnswerLine}
-use Rattle.script.specs.declared.lines.CountLine.{CountLine}
-use Rattle.script.proofs.Buffers.{written-append, joined}
+use Rattle.print.specs.Writing.{Out, out, written, keyLine, answerLine, refusedLine, countLine}
+use Rattle.print.specs.declared.lines.AnswerLine.{AnswerLine}
+use Rattle.print.specs.declared.lines.CountLine.{CountLine}
+use Rattle.print.proofs.Buffers.{written-append, joined}
 use Rattle.session.specs.Text.{keyLines, saidText}
 use Rattle.session.specs.declared.line.Said.{Said}
 use Rattle.session.specs.declared.line.Said.the-variants as said

@@ -8,7 +8,7 @@ use lib.Dec.{ltb}
 use lib.ListN.{length, take, set, length-set}
 use lib.Seq.{length-take-le}
 use Rattle.tables.specs.Choice.{pick}
-use Rattle.script.specs.Writing.{Out, out, written}
+use Rattle.print.specs.Writing.{Out, out, written}
 use Rattle.script.proofs.Trips.{place-within}
 
 written-length : (b : List ℕ) (at : ℕ) (xs : List ℕ) → length (written b at xs .buffer) ≡ length b

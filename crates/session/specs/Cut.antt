@@ -2,7 +2,7 @@
 use Prim.Native.Nat.{ℕ}
 use mathlib.Core.Bool.{Bool, not}
 use lib.Dec.{eqb}
-use Rattle.script.specs.Text.{newline}
+use Rattle.print.specs.Text.{newline}
 
 -- a byte that does not end a line
 abbrev pub inLine : ℕ → Bool

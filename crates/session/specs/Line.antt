@@ -22,9 +22,9 @@ use Rattle.walk.specs.declared.Listed.{Listed}
 use Rattle.walk.specs.declared.Listed.the-variants as listed
 use Rattle.script.specs.declared.lines.Line.{Line}
 use Rattle.script.specs.declared.lines.Line.the-variants as line
-use Rattle.script.specs.declared.lines.Making.{Making}
-use Rattle.script.specs.declared.lines.StartLine.{StartLine}
-use Rattle.script.specs.declared.lines.StepLine.{StepLine}
+use Rattle.print.specs.declared.lines.Making.{Making}
+use Rattle.print.specs.declared.lines.StartLine.{StartLine}
+use Rattle.print.specs.declared.lines.StepLine.{StepLine}
 use Rattle.session.specs.declared.line.Stage.{Stage}
 use Rattle.session.specs.declared.line.Stage.the-variants as stage
 use Rattle.session.specs.declared.line.Said.{Said}

@@ -3,7 +3,7 @@ use Prim.Native.Nat.{ℕ}
 use mathlib.Core.List.{List, [], _∷_, _++_}
 use lib.ListN.{take}
 use Rattle.tables.specs.Refusal.{numberOf}
-use Rattle.script.specs.Writing.{answerLine, refusedLine, countLine, keyLine}
+use Rattle.print.specs.Writing.{answerLine, refusedLine, countLine, keyLine}
 use Rattle.session.specs.declared.line.Said.{Said}
 use Rattle.session.specs.declared.line.Said.the-variants.{Nothing, Answered, Refused, Listed}
 

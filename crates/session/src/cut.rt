@@ -2,7 +2,7 @@
 ghost use mathlib.Core.Path.{_≡_};
 ghost use Prim.Native.Nat.{_+_};
 ghost use lib.ListN.{length, drop};
-ghost use Rattle.script.specs.Text.{front};
+ghost use Rattle.print.specs.Text.{front};
 ghost use Rattle.session.specs.Cut.{inLine};
 
 // Where the line that goes on at a place of the piece ends: at the next newline, or with the piece.

@@ -1,10 +1,10 @@
 // What a line has printed, as bytes in a lent buffer.
 ghost use mathlib.Core.Path.{_≡_};
 ghost use lib.ListN.{take};
-ghost use Rattle.script.specs.Writing.{out, written};
+ghost use Rattle.print.specs.Writing.{out, written};
 ghost use Rattle.session.specs.Text.{keyLines, saidText};
 use crate::line::Said;
-use script::write;
+use print::write;
 use tables::numbers;
 
 // "keys follow ascending"

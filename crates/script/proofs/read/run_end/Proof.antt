@@ -3,7 +3,7 @@ use borrow.Author.Needs.{needs}
 use mathlib.Core.Path.{_≡_}
 use Prim.Native.Nat.{_+_, _-_}
 use lib.ListN.{length, drop}
-use Rattle.script.specs.Text.{front}
+use Rattle.print.specs.Text.{front}
 use Rattle.script.specs.Position.{belongsTo}
 use Rattle.script.proofs.Turns.{runs}
 use Rattle.script.proofs.read.run_end.Statement.{statement}

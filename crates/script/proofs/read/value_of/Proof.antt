@@ -3,7 +3,7 @@ use borrow.Author.Needs.{needs}
 use mathlib.Core.Path.{_≡_}
 use Prim.Native.Nat.{_≤_, _-_}
 use lib.ListN.{length, drop}
-use Rattle.script.specs.Text.{valueOf, valueFrom}
+use Rattle.print.specs.Text.{valueOf, valueFrom}
 use Rattle.script.proofs.Turns.{values}
 use Rattle.script.proofs.read.value_of.Statement.{statement}
 use Rattle.script.proofs.read.value_of.Tie as tie

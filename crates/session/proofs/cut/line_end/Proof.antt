@@ -3,7 +3,7 @@ use borrow.Author.Needs.{needs}
 use mathlib.Core.Path.{_≡_}
 use Prim.Native.Nat.{_+_, _-_}
 use lib.ListN.{length, drop}
-use Rattle.script.specs.Text.{front}
+use Rattle.print.specs.Text.{front}
 use Rattle.session.specs.Cut.{inLine}
 use Rattle.session.proofs.Cuts.{ends}
 use Rattle.session.proofs.cut.line_end.Statement.{statement}

@@ -3,7 +3,7 @@ use borrow.Author.Needs.{needs}
 use mathlib.Core.Path.{_≡_}
 use Prim.Native.Nat.{_-_}
 use lib.ListN.{length, drop}
-use Rattle.script.specs.Writing.{written}
+use Rattle.print.specs.Writing.{written}
 use Rattle.session.specs.Text.{keyLines}
 use Rattle.session.proofs.Texts.{key-turns}
 use Rattle.session.proofs.text.put_keys.Statement.{statement}
