@@ -26,7 +26,8 @@ use Rattle.draws.specs.declared.Job.{Job}
 use Rattle.draws.specs.Draw.{newNode, newRecord, sprouts, neededNodes, newKeys, newCount, leafDrawn, leavesFrom, sproutLeaves, sproutDrawn, nodesDrawn, recordImage, recordDrawn, committed, replaceDrawn, pruneDrawn}
 use Rattle.draws.proofs.After.{Room, room-is, stemImage}
 use Rattle.help.specs.Touch.{Touch, reads, swaps, touched}
-use Rattle.points.specs.Rows.{jobOf, rowOf}
+use Rattle.flag.specs.Rows.{jobOf}
+use Rattle.points.specs.Rows.{rowOf}
 use Rattle.points.specs.Step.{stepReasons}
 use Rattle.points.proofs.Accepted.{Accepted, Known, accepted-known}
 use Rattle.points.proofs.Counted.{neededAt}

@@ -15,7 +15,8 @@ use Rattle.damage.specs.Helped.{recordGood, helpedGood}
 use Rattle.draws.specs.Draw.{leavesFrom, committed, replaceDrawn}
 use Rattle.help.specs.Help.{helpEnded}
 use Rattle.help.specs.Rows.{lookRow, hangRow, unflagRow, row6, row7, row8, helpRow}
-use Rattle.points.specs.Rows.{row1, row2, row4, rowOf}
+use Rattle.flag.specs.Rows.{row4}
+use Rattle.points.specs.Rows.{row1, row2, rowOf}
 use Rattle.index.specs.Calls.{startCall, stepCall}
 use Rattle.link.specs.Operations.{Answered}
 use Rattle.link.specs.Events.{Event, start, step, State, taken, AllProper, empty, also, stateAt, freshState}

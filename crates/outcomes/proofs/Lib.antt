@@ -6,6 +6,7 @@ pub mod Process
 pub mod Damage
 pub mod Draws
 pub mod Help
+pub mod Flag
 pub mod Points
 pub mod Walk
 pub mod Print

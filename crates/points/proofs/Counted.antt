@@ -28,7 +28,8 @@ use Rattle.draws.specs.Draw.{newRecord, roomFor, neededNodes}
 use Rattle.help.specs.Touch.{seenBy, succeeds, Row, Out}
 use Rattle.help.specs.Help.{helpedL, helpedP, helpedThird, topOf, helpEnded, helping}
 use Rattle.help.specs.Rows.{kinAt, touch11, lookedFor, lookRow, hangRow, unflagRow, touch9, underTop, notes, otherWith, noted, row6, row7, row8, row9, row10, row11, row12, row13, row14, noRow}
-use Rattle.points.specs.Rows.{touch1, touch2, touch3, touch4, touch5, maskWith, pointAfter3, scanned3, insertAt, deleteAt, findAt, atLeaf, atChild, room4, row1, row2, row3, row4, row5, rowOf}
+use Rattle.flag.specs.Rows.{touch4, touch5, room4, row4, row5}
+use Rattle.points.specs.Rows.{touch1, touch2, touch3, maskWith, pointAfter3, scanned3, insertAt, deleteAt, findAt, atLeaf, atChild, row1, row2, row3, rowOf}
 use Rattle.points.specs.Step.{stepOf}
 use Rattle.points.proofs.Steps.{each-row}
 use Rattle.points.proofs.Accepted.{Accepted, accepted-known, accepted-does}

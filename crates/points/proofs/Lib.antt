@@ -1,6 +1,5 @@
 -- The laws of start and the fourteen points, return by return; then, from Accepted on, the theorems: answers, refusals, what a step touches and leaves.
 pub mod Searches
-pub mod Flags
 pub mod Steps
 pub mod Accepted
 pub mod Counted

@@ -29,7 +29,8 @@ use Rattle.help.specs.Touch.{Row, Out, out, rowDone}
 use Rattle.help.specs.Rows.{row6, row7, row8, row9, row10, row11, row12, row13, row14, noRow, helpRow, helpedDone, recordHelped}
 use Rattle.help.proofs.Rowed.{at-row, each-help}
 use Rattle.help.proofs.Records.{none-helped, help-at-6, help-at-7, help-at-8, help-at-9, help-at-10, help-at-11, help-at-12, help-at-13, help-at-14}
-use Rattle.points.specs.Rows.{row1, row2, row3, row4, row5, rowOf}
+use Rattle.flag.specs.Rows.{row4, row5, pruneFlagged}
+use Rattle.points.specs.Rows.{row1, row2, row3, rowOf}
 use Rattle.points.specs.Step.{stepRefused, stepDone, stepOf, soundStep, started, startOf}
 use Rattle.points.specs.Parts.{Ready, stepGood, startKnown, startGood}
 use Rattle.points.specs.declared.start.StartAnswer.the-variants as answers
@@ -104,6 +105,10 @@ module _ (b : List ℕ) (h : Header) (n : ℕ) (q : Process) where
   pub row-at-14 : q .point ≡ 14 → rowOf b h n q ≡ row14 b h n q
   row-at-14 e = row-late (omega arith) ∙ help-at-14 b h n q e
 
+  fits-row : Ready q → pruneFlagged b h n q ≡ rowDone b q (row5 b h n q)
+  unfolding pruneFlagged pick
+  fits-row r = rw (lt-ltb (wordOf (q .pseen)) 4294967296 (r .pseen-small)) refl
+
   module _ (s : Stepped) (e : List ℕ) where
     pub at-1 : q .point ≡ 1 → out s e ≡ rowDone b q (row1 b h q) → out s e ≡ helpedDone b h q (rowOf b h n q)
     at-1 f g = g ∙ ap (rowDone b q) (sym (row-at-1 f)) ∙ sym (none-helped b h q (rowOf b h n q) (omega arith))
@@ -117,8 +122,9 @@ module _ (b : List ℕ) (h : Header) (n : ℕ) (q : Process) where
     pub at-4 : q .point ≡ 4 → out s e ≡ rowDone b q (row4 b h n q) → out s e ≡ helpedDone b h q (rowOf b h n q)
     at-4 f g = g ∙ ap (rowDone b q) (sym (row-at-4 f)) ∙ sym (none-helped b h q (rowOf b h n q) (omega arith))
 
-    pub at-5 : q .point ≡ 5 → out s e ≡ rowDone b q (row5 b h n q) → out s e ≡ helpedDone b h q (rowOf b h n q)
-    at-5 f g = g ∙ ap (rowDone b q) (sym (row-at-5 f)) ∙ sym (none-helped b h q (rowOf b h n q) (omega arith))
+    -- the value read on the way down is a word in a sound record
+    pub at-5 : Ready q → q .point ≡ 5 → out s e ≡ pruneFlagged b h n q → out s e ≡ helpedDone b h q (rowOf b h n q)
+    at-5 r f g = g ∙ fits-row r ∙ ap (rowDone b q) (sym (row-at-5 f)) ∙ sym (none-helped b h q (rowOf b h n q) (omega arith))
 
     pub at-past : (q .point ≡ 1 → ⊥) → (q .point ≡ 2 → ⊥) → (q .point ≡ 3 → ⊥) → (q .point ≡ 4 → ⊥) → (q .point ≡ 5 → ⊥) → out s e ≡ recordHelped b h n q → out s e ≡ helpedDone b h q (rowOf b h n q)
     at-past f1 f2 f3 f4 f5 g = g ∙ ap (helpedDone b h q) (sym (row-past f1 f2 f3 f4 f5))

@@ -24,7 +24,8 @@ use Rattle.process.specs.declared.Process.{Process}
 use Rattle.draws.specs.Draw.{newNode, newRecord, neededNodes, nodesDrawn, replaceDrawn, pruneDrawn}
 use Rattle.draws.proofs.After.{Room, room-is, nodes-length, committed-other, committed-flag, committed-header, committed-length, replace-other, replace-header, replace-length}
 use Rattle.help.specs.Touch.{Touch, reads, swaps, touchedNode, touchedWord, touched, Row, Out}
-use Rattle.points.specs.Rows.{jobOf, rowOf}
+use Rattle.flag.specs.Rows.{jobOf}
+use Rattle.points.specs.Rows.{rowOf}
 use Rattle.points.specs.Step.{stepOf}
 use Rattle.points.proofs.Accepted.{Accepted, Known, accepted-known, accepted-does}
 use Rattle.points.proofs.Leaves.{Shared, placeOf, stackPoint, ownWord, Leaves, by-touch, by-stack, by-replace, by-prune, by-none, row-shares, row-leaves}

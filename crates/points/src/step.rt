@@ -7,7 +7,6 @@ ghost use Rattle.help.specs.Rows.{helpedDone};
 ghost use Rattle.points.specs.Rows.{rowOf};
 ghost use Rattle.points.specs.Step.{stepOf};
 ghost use Rattle.points.specs.Parts.{Ready, stepGood};
-use crate::flag;
 use crate::search;
 use process::Process;
 use process::Stepped;

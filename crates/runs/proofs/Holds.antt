@@ -11,7 +11,8 @@ use Rattle.damage.specs.Helped.{helpedGood, recordGood}
 use Rattle.draws.specs.Draw.{leavesFrom, committed, replaceDrawn, pruneDrawn}
 use Rattle.help.specs.Help.{helpEnded}
 use Rattle.help.specs.Rows.{row6, row7, row8, row9, row10, row11, row12, row13, row14, noRow, lookRow, hangRow, unflagRow, helpRow}
-use Rattle.points.specs.Rows.{row1, row2, row3, row4, row5, rowOf}
+use Rattle.flag.specs.Rows.{row4, row5}
+use Rattle.points.specs.Rows.{row1, row2, row3, rowOf}
 use Rattle.walk.specs.Walk.{inOrder, walkOf}
 use Rattle.index.specs.Calls.{startCall, stepCall}
 use Rattle.runs.specs.Run.{many, run, measured, expected}

@@ -1,10 +1,11 @@
 // Points 4 and 5: the flag of a new record on p's pending, or on gp's, and what is drawn for it.
+// No public function asks anything of its caller.
 ghost use mathlib.Core.Path.{_≡_};
 ghost use Prim.Native.Nat.{_<_};
 ghost use Rattle.tables.specs.Pending.{wordOf};
 ghost use Rattle.help.specs.Touch.{out, rowDone};
-ghost use Rattle.points.specs.Parts.{seenHelped, drawnReplace, drawnPrune, flaggedP, flaggedLeaf, flaggedGp};
-ghost use Rattle.points.specs.Rows.{heldGood, leafGood4, jobOf, row4, row5};
+ghost use Rattle.flag.specs.Parts.{seenHelped, drawnReplace, drawnPrune, flaggedP, flaggedLeaf, flaggedGp};
+ghost use Rattle.flag.specs.Rows.{heldGood, leafGood4, jobOf, row4, pruneFlagged};
 use draws::Job;
 use process::Answer;
 use process::Process;
@@ -150,11 +151,14 @@ pub fn point_4(block: &mut [u32], h: Header, n: u32, q: Process) -> Stepped
     flag_leaf(block, h, n, q, kin, word)
 }
 
-// 5. The same on gp's pending, with prune.
+// 5. The same on gp's pending, with prune. The prune's expected word is p's pending as it was read, and must fit a word.
 pub fn point_5(block: &mut [u32], h: Header, n: u32, q: Process) -> Stepped
-    requires { ⌜ wordOf (q .pseen) < 4294967296 ⌝ }
-    ensures { λ r. ⌜ out r (now (block .exit)) ≡ rowDone (now (block .entry)) q (row5 (now (block .entry)) h n q) ⌝ }
+    ensures { λ r. ⌜ out r (now (block .exit)) ≡ pruneFlagged (now (block .entry)) h n q ⌝ }
 {
+    let pseen = q.pseen;
+    if 4294967296 <= pending::word_of(pseen) {
+        return help::damaged(q);
+    }
     let word = header::pending_word(block, h, q.gp);
     if help::seen_good(block, h, word) {
         flag_gp(block, h, n, q, word)

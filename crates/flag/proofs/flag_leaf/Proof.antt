@@ -1,8 +1,8 @@
--- The proof that `flag::flag_leaf` keeps its contract.
+-- The proof that `flag_leaf` keeps its contract.
 use borrow.Author.Needs.{needs}
-use Rattle.points.proofs.Flags.{leafing}
-use Rattle.points.proofs.flag.flag_leaf.Statement.{statement}
-use Rattle.points.proofs.flag.flag_leaf.Tie as tie
+use Rattle.flag.proofs.Flags.{leafing}
+use Rattle.flag.proofs.flag_leaf.Statement.{statement}
+use Rattle.flag.proofs.flag_leaf.Tie as tie
 
 pub flag-leaf-spec : {M : Type 1} → statement M
 flag-leaf-spec =

@@ -1,11 +1,11 @@
 -- Points 4 and 5, return by return.
-use Prim.Native.Nat.{ℕ, _+_}
+use Prim.Native.Nat.{ℕ, _+_, _≤_, _<_}
 use mathlib.Core.Path.{_≡_, refl, sym, ap, _∙_}
 use mathlib.Core.Bool.{Bool, true, false}
 use mathlib.Core.List.{List}
 use native.Mathlib.Omega.{arith}
 use lib.Dec.{eqb}
-use borrow.Author.Tests.{eq-eqb, ne-eqb}
+use borrow.Author.Tests.{lt-ltb, le-ltb, eq-eqb, ne-eqb}
 use Rattle.tables.specs.Choice.{pick, both, either}
 use Rattle.tables.specs.Refusal.{refusal}
 use Rattle.tables.specs.Layout.{tagWord, pendingWord}
@@ -28,8 +28,8 @@ use Rattle.draws.specs.declared.Job.{Job}
 use Rattle.help.specs.Touch.{Out, out, rowDone}
 use Rattle.help.specs.Help.{topOf, helping, helpGood}
 use Rattle.help.specs.Rows.{kinAt}
-use Rattle.points.specs.Rows.{heldGood, leafGood4, jobOf, row4, row5}
-use Rattle.points.specs.Parts.{seenHelped, drawnReplace, drawnPrune, flaggedP, flaggedLeaf, flaggedGp}
+use Rattle.flag.specs.Rows.{heldGood, leafGood4, jobOf, row4, row5, pruneFlagged}
+use Rattle.flag.specs.Parts.{seenHelped, drawnReplace, drawnPrune, flaggedP, flaggedLeaf, flaggedGp}
 use Rattle.help.proofs.Rowed.{row-not, kin-is}
 
 module _ (b : List ℕ) (h : Header) (n : ℕ) (q : Process) (word top : ℕ) (v : Pending) (t : Bool) (s : Stepped) (e1 : top ≡ topOf b h n q) (e2 : v ≡ pendingOf word)
@@ -192,25 +192,40 @@ module _ (b : List ℕ) (h : Header) (n : ℕ) (q : Process) (s : Stepped) (c : 
 
 pub ruleset fours = (four-none, four-leaf)
 
-module _ (b : List ℕ) (h : Header) (n : ℕ) (q : Process) (s : Stepped) (word : ℕ) (t : Bool) (e1 : word ≡ pendingWord b h (q .gp)) (e2 : t ≡ pendingGood b h (pendingOf word)) where
-  seen-is : pendingGood b h (pendingOf (pendingWord b h (q .gp))) ≡ t
-  seen-is = cc
+module _ (b : List ℕ) (h : Header) (n : ℕ) (q : Process) (s : Stepped) (expected : ℕ) (e0 : expected ≡ wordOf (q .pseen)) where
+  pub five-wide : 4294967296 ≤ expected → s ≡ refusedAs q (refusal 3) → out s b ≡ pruneFlagged b h n q
+  unfolding pruneFlagged pick
+  five-wide p g = ap (λ (x : Stepped). out x b) g ∙ rw (le-ltb (wordOf (q .pseen)) 4294967296 (omega arith)) refl
 
-  pub five-bad : t ≡ false → s ≡ refusedAs q (refusal 3) → out s b ≡ rowDone b q (row5 b h n q)
-  unfolding row5 both
-  five-bad f g = row-not b q (row5 b h n q) s (rw (seen-is ∙ f) refl) g
+  module _ (fits : expected < 4294967296) where
+    expected-fits : wordOf (q .pseen) < 4294967296
+    expected-fits = omega arith
 
-  pub five-good : (e : List ℕ) → t ≡ true → out s e ≡ flaggedGp b h n q word → out s e ≡ rowDone b q (row5 b h n q)
-  unfolding row5 rowDone flaggedGp both
-  five-good e g i =
-      i
-      ∙ flag-rest (eqb word (wordOf (q .gseen))) (helpGood b h (q .depth) (topOf b h n q) (pendingOf word)) (roomFor h 0)
-      (goingOn (toNine (withOwn q (newRecord h)) (newRecord h)))
-      (endingOf q (answer 2))
-      (helping (topOf b h n q) q (pendingOf word))
-      (refusedAs q (refusal 3))
-      (pruneDrawn b h (jobOf n q) (q .gp) (wordOf (q .pseen)))
-      b
-      ∙ rw (e1, seen-is ∙ g) refl
+    in-row : rowDone b q (row5 b h n q) ≡ pruneFlagged b h n q
+    unfolding pruneFlagged pick
+    in-row = rw (lt-ltb (wordOf (q .pseen)) 4294967296 expected-fits) refl
 
-pub ruleset fives = (five-bad, five-good)
+    module _ (word : ℕ) (t : Bool) (e1 : word ≡ pendingWord b h (q .gp)) (e2 : t ≡ pendingGood b h (pendingOf word)) where
+      seen-is : pendingGood b h (pendingOf (pendingWord b h (q .gp))) ≡ t
+      seen-is = cc
+
+      pub five-bad : t ≡ false → s ≡ refusedAs q (refusal 3) → out s b ≡ pruneFlagged b h n q
+      unfolding row5 both
+      five-bad f g = row-not b q (row5 b h n q) s (rw (seen-is ∙ f) refl) g ∙ in-row
+
+      gp-row : t ≡ true → flaggedGp b h n q word ≡ rowDone b q (row5 b h n q)
+      unfolding row5 rowDone flaggedGp both
+      gp-row g =
+          flag-rest (eqb word (wordOf (q .gseen))) (helpGood b h (q .depth) (topOf b h n q) (pendingOf word)) (roomFor h 0)
+          (goingOn (toNine (withOwn q (newRecord h)) (newRecord h)))
+          (endingOf q (answer 2))
+          (helping (topOf b h n q) q (pendingOf word))
+          (refusedAs q (refusal 3))
+          (pruneDrawn b h (jobOf n q) (q .gp) (wordOf (q .pseen)))
+          b
+          ∙ rw (e1, seen-is ∙ g) refl
+
+      pub five-good : (e : List ℕ) → t ≡ true → out s e ≡ flaggedGp b h n q word → out s e ≡ pruneFlagged b h n q
+      five-good e g i = i ∙ gp-row g ∙ in-row
+
+pub ruleset fives = (five-wide, five-bad, five-good)

@@ -1,8 +1,8 @@
--- The proof that `flag::flag_p` keeps its contract.
+-- The proof that `flag_p` keeps its contract.
 use borrow.Author.Needs.{needs}
-use Rattle.points.proofs.Flags.{flags}
-use Rattle.points.proofs.flag.flag_p.Statement.{statement}
-use Rattle.points.proofs.flag.flag_p.Tie as tie
+use Rattle.flag.proofs.Flags.{flags}
+use Rattle.flag.proofs.flag_p.Statement.{statement}
+use Rattle.flag.proofs.flag_p.Tie as tie
 
 pub flag-p-spec : {M : Type 1} → statement M
 flag-p-spec =

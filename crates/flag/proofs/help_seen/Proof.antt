@@ -1,8 +1,8 @@
--- The proof that `flag::help_seen` keeps its contract.
+-- The proof that `help_seen` keeps its contract.
 use borrow.Author.Needs.{needs}
-use Rattle.points.proofs.Flags.{seens}
-use Rattle.points.proofs.flag.help_seen.Statement.{statement}
-use Rattle.points.proofs.flag.help_seen.Tie as tie
+use Rattle.flag.proofs.Flags.{seens}
+use Rattle.flag.proofs.help_seen.Statement.{statement}
+use Rattle.flag.proofs.help_seen.Tie as tie
 
 pub help-seen-spec : {M : Type 1} → statement M
 help-seen-spec =

@@ -1,8 +1,8 @@
--- The proof that `flag::point_4` keeps its contract.
+-- The proof that `point_4` keeps its contract.
 use borrow.Author.Needs.{needs}
-use Rattle.points.proofs.Flags.{fours}
-use Rattle.points.proofs.flag.point_4.Statement.{statement}
-use Rattle.points.proofs.flag.point_4.Tie as tie
+use Rattle.flag.proofs.Flags.{fours}
+use Rattle.flag.proofs.point_4.Statement.{statement}
+use Rattle.flag.proofs.point_4.Tie as tie
 
 pub point-4-spec : {M : Type 1} → statement M
 point-4-spec =

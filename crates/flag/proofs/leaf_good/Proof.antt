@@ -1,8 +1,8 @@
--- The proof that `flag::leaf_good` keeps its contract.
+-- The proof that `leaf_good` keeps its contract.
 use borrow.Author.Needs.{needs}
-use Rattle.points.proofs.Flags.{leaves}
-use Rattle.points.proofs.flag.leaf_good.Statement.{statement}
-use Rattle.points.proofs.flag.leaf_good.Tie as tie
+use Rattle.flag.proofs.Flags.{leaves}
+use Rattle.flag.proofs.leaf_good.Statement.{statement}
+use Rattle.flag.proofs.leaf_good.Tie as tie
 
 pub leaf-good-spec : {M : Type 1} → statement M
 leaf-good-spec =

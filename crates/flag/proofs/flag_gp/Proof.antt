@@ -1,8 +1,8 @@
--- The proof that `flag::flag_gp` keeps its contract.
+-- The proof that `flag_gp` keeps its contract.
 use borrow.Author.Needs.{needs}
-use Rattle.points.proofs.Flags.{flags}
-use Rattle.points.proofs.flag.flag_gp.Statement.{statement}
-use Rattle.points.proofs.flag.flag_gp.Tie as tie
+use Rattle.flag.proofs.Flags.{flags}
+use Rattle.flag.proofs.flag_gp.Statement.{statement}
+use Rattle.flag.proofs.flag_gp.Tie as tie
 
 pub flag-gp-spec : {M : Type 1} → statement M
 flag-gp-spec =
