@@ -29,7 +29,7 @@ tops=(runs)
 for crate in "${order[@]}"; do if stands_on "$crate" link; then tops+=("$crate"); fi; done
 is_needed() { local top; for top in "${tops[@]}"; do if stands_on "$top" "$1"; then return 0; fi; done; return 1; }
 # The crates whose definitions an edit changes; those that it can reach; and of these, those below the ones that are asked.
-edited=(draws help flag points)
+edited=(draws help flag finish mark points)
 is_reached() { local base; is_needed "$1" || return 1; for base in "${edited[@]}"; do if stands_on "$1" "$base"; then return 0; fi; done; return 1; }
 is_between() { is_reached "$1" && ! stands_on "$1" link && [ "$1" != runs ]; }
 

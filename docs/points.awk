@@ -1,4 +1,4 @@
-# The fourteen points from their definitions: of each row of the Rows.antt of points, flag and help what it touches, and where it, or a definition that it uses,
+# The fourteen points from their definitions: of each row of the Rows.antt of points, flag, finish and mark what it touches, and where it, or a definition that it uses,
 # sends the process. "help" and "end" are the definitions helping and helpEnded of help/specs/Help.antt. Prints a table, or with -v svg=1 a drawing.
 
 # Definitions stand one to a paragraph: the words behind the signature, without comments and without left-hand sides.
@@ -120,7 +120,9 @@ BEGIN {
     places = split("1 2 3 4 5 6 7 8 9 10 11 12 13 14 help end restart no yes full", place, " ")
     read("crates/points/specs/Rows.antt")
     read("crates/flag/specs/Rows.antt")
-    read("crates/help/specs/Rows.antt")
+    read("crates/finish/specs/Rows.antt")
+    read("crates/mark/specs/Rows.antt")
+    read("crates/help/specs/Reads.antt")
     read("crates/help/specs/Help.antt")
     for (n = 1; n <= 14; n++) {
         if (!("row" n in body)) { print "there is no row" n > "/dev/stderr"; exit 1 }

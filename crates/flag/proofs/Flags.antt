@@ -27,7 +27,7 @@ use Rattle.draws.specs.Draw.{newRecord, roomFor, neededNodes, replaceDrawn, pru
 use Rattle.draws.specs.declared.Job.{Job}
 use Rattle.help.specs.Touch.{Out, out, rowDone}
 use Rattle.help.specs.Help.{topOf, helping, helpGood}
-use Rattle.help.specs.Rows.{kinAt}
+use Rattle.help.specs.Reads.{kinAt}
 use Rattle.flag.specs.Rows.{heldGood, leafGood4, jobOf, row4, row5, pruneFlagged}
 use Rattle.flag.specs.Parts.{seenHelped, drawnReplace, drawnPrune, flaggedP, flaggedLeaf, flaggedGp}
 use Rattle.help.proofs.Rowed.{row-not, kin-is}

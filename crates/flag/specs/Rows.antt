@@ -20,7 +20,7 @@ use Rattle.draws.specs.Draw.{newRecord, roomFor, neededNodes, replaceDrawn, pru
 use Rattle.draws.specs.declared.Job.{Job}
 use Rattle.help.specs.Touch.{Touch, seenBy, succeeds, Row, Out, out, rowDone}
 use Rattle.help.specs.Help.{topOf, helping, helpGood}
-use Rattle.help.specs.Rows.{swapPending, seenGood, kinAt}
+use Rattle.help.specs.Reads.{swapPending, seenGood, kinAt}
 
 -- what the process's new record will say
 abbrev pub jobOf : ℕ → Process → Job

@@ -1,11 +1,14 @@
 -- Helping, return by return.
-use Prim.Native.Nat.{ℕ, _-_}
+use Prim.Native.Nat.{ℕ, _+_, _*_, _-_}
 use mathlib.Core.Path.{_≡_, refl, ap, _∙_}
-use mathlib.Core.Bool.{Bool, true, false}
+use mathlib.Core.Bool.{Bool, true, false, not}
 use mathlib.Core.List.{List}
-use borrow.Author.Tests.{ne-eqb}
+use native.Mathlib.Omega.{arith}
+use lib.Dec.{eqb}
+use lib.ListN.{set}
+use borrow.Author.Tests.{eq-eqb, ne-eqb}
 use Rattle.tables.specs.Choice.{pick, both}
-use Rattle.tables.specs.Layout.{stackWord}
+use Rattle.tables.specs.Layout.{nodeAt, stackWord, pendingPlace}
 use Rattle.tables.specs.Pending.{pendingOf, pendingGood}
 use Rattle.tables.specs.declared.header.Header.{Header}
 use Rattle.tables.specs.declared.node.Kin.{Kin}
@@ -18,27 +21,23 @@ use Rattle.process.specs.declared.Process.{Process}
 use Rattle.process.specs.declared.Answer.the-variants.{Yes}
 use Rattle.process.specs.declared.Stepped.{Stepped}
 use Rattle.help.specs.Help.{topOf, helpEnded, helping, topGood, helpGood}
-use Rattle.help.specs.Rows.{nonEmpty}
+use Rattle.help.specs.Reads.{nonEmpty}
 
 module _ (last : Bool) (top : ℕ) (q : Process) (s : Stepped) where
-  module _ (q1 : Process) (e : q1 ≡ restartedOf q) (f : s ≡ goingOn q1) where
-    pub ended-empty : q .depth ≡ 0 → last ≡ true → q .own ≡ 0 → s ≡ helpEnded last top q
-    unfolding helpEnded pick both
-    ended-empty g i j = cc
+  module _ (t : Bool) (e : t ≡ both last (not (eqb (q .own) 0))) (f : q .depth ≡ 0) where
+    pub ended-yes : t ≡ true → s ≡ endingOf q Yes → s ≡ helpEnded last top q
+    unfolding helpEnded pick
+    ended-yes g i = cc
 
-    pub ended-restart : q .depth ≡ 0 → last ≡ false → s ≡ helpEnded last top q
-    unfolding helpEnded pick both
-    ended-restart g i = cc
-
-  pub ended-yes : q .depth ≡ 0 → last ≡ true → (q .own ≡ 0 → ⊥) → s ≡ endingOf q Yes → s ≡ helpEnded last top q
-  unfolding helpEnded pick both
-  ended-yes g i j f = cc (ne-eqb (q .own) 0 j)
+    pub ended-restart : (q1 : Process) → t ≡ false → q1 ≡ restartedOf q → s ≡ goingOn q1 → s ≡ helpEnded last top q
+    unfolding helpEnded pick
+    ended-restart q1 g i j = cc
 
   pub ended-ten : (q1 : Process) → (q .depth ≡ 0 → ⊥) → q1 ≡ toTen q top → s ≡ goingOn q1 → s ≡ helpEnded last top q
   unfolding helpEnded pick
   ended-ten q1 g e f = cc (ne-eqb (q .depth) 0 g)
 
-pub ruleset ended = (ended-empty, ended-restart, ended-yes, ended-ten)
+pub ruleset ended = (ended-yes, ended-restart, ended-ten)
 
 module _ (top : ℕ) (q : Process) (v : Pending) (r : ℕ) (s : Stepped) where
   pub help-clean : v ≡ Clean r → s ≡ helpEnded false top q → s ≡ helping top q v
@@ -82,3 +81,16 @@ module _ (kin : Kin) (n c : ℕ) (e : kin ≡ Leaf n c) where
   holding-leaf f = cc (ne-eqb c 0 f)
 
 pub ruleset kins = (empty-leaf, holding-leaf)
+
+-- a flag that is swapped for clean
+module _ (b : List ℕ) (h : Header) (node word helped kind : ℕ) where
+  pub clear-found : (at : ℕ) (e : List ℕ) → word ≡ 4 * helped + kind → at ≡ nodeAt h node (pendingPlace (h .k)) → e ≡ set b at (word - kind) →
+      e ≡ pick (eqb word (4 * helped + kind)) (set b (nodeAt h node (pendingPlace (h .k))) (4 * helped)) b
+  unfolding pick
+  clear-found at e f g i = let z : word - kind ≡ 4 * helped = omega arith in i ∙ rw (g, z, eq-eqb word (4 * helped + kind) f) refl
+
+  pub clear-other : (word ≡ 4 * helped + kind → ⊥) → b ≡ pick (eqb word (4 * helped + kind)) (set b (nodeAt h node (pendingPlace (h .k))) (4 * helped)) b
+  unfolding pick
+  clear-other f = rw (ne-eqb word (4 * helped + kind) f) refl
+
+pub ruleset cleared = (clear-found, clear-other)

@@ -1,5 +1,3 @@
--- The laws of a record being helped, return by return.
+-- The laws of a row and of helping, return by return.
 pub mod Rowed
 pub mod Helps
-pub mod Finishes
-pub mod Records

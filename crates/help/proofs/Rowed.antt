@@ -17,7 +17,7 @@ use Rattle.process.specs.Answer.{refusedAs}
 use Rattle.process.specs.declared.Process.{Process}
 use Rattle.process.specs.declared.Stepped.{Stepped}
 use Rattle.help.specs.Touch.{Row, out, rowDone}
-use Rattle.help.specs.Rows.{kinAt, row6, row7, row8, row9, row10, row11, row12, row13, row14, noRow, helpRow}
+use Rattle.help.specs.Reads.{kinAt}
 
 module _ (b : List ℕ) (q : Process) (row : Row) (s : Stepped) where
   pub row-done : (e : List ℕ) → row .sound ≡ true → s ≡ row .stepped → e ≡ row .block → out s e ≡ rowDone b q row
@@ -44,19 +44,6 @@ module _ (P : Row → Type 0) where
       go : (t : Bool) → (t ≡ true → x ≡ n) → P (pick t r s)
       go true e = f (e refl)
       go false e = g
-
-  module _ (b : List ℕ) (h : Header) (n : ℕ) (q : Process) where
-    pub each-help : (q .point ≡ 6 → P (row6 b h q)) → (q .point ≡ 7 → P (row7 b h q)) → (q .point ≡ 8 → P (row8 b h n q)) →
-        (q .point ≡ 9 → P (row9 b h n q)) → (q .point ≡ 10 → P (row10 b h n q)) → (q .point ≡ 11 → P (row11 b h q)) → (q .point ≡ 12 → P (row12 b h q)) →
-        (q .point ≡ 13 → P (row13 b h q)) → (q .point ≡ 14 → P (row14 b h n q)) → P (noRow b q) → P (helpRow b h n q)
-    unfolding helpRow
-    each-help r6 r7 r8 r9 r10 r11 r12 r13 r14 none =
-        at-row (q .point) 6 _ _ r6
-        (at-row (q .point) 7 _ _ r7
-        (at-row (q .point) 8 _ _ r8
-        (at-row (q .point) 9 _ _ r9
-        (at-row (q .point) 10 _ _ r10
-        (at-row (q .point) 11 _ _ r11 (at-row (q .point) 12 _ _ r12 (at-row (q .point) 13 _ _ r13 (at-row (q .point) 14 _ _ r14 none))))))))
 
 -- a good node is what its tag says
 kin-node : (t : Bool) (k kin : Kin) → pick t (Node k) Damaged ≡ Node kin → kin ≡ k

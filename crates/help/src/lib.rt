@@ -1,22 +1,21 @@
-// Helping: where a pending value sends a process, how help ends, and points 6 to 14, which carry the record helped through.
+// Helping: where a pending value sends a process, how help ends, and what the points of a record being helped share.
 // No public function asks anything of its caller.
 ghost use mathlib.Core.Path.{_≡_};
+ghost use Prim.Native.Nat.{_+_, _*_};
 ghost use lib.Dec.{eqb};
 ghost use lib.ListN.{set};
 ghost use Rattle.tables.specs.Choice.{pick};
+ghost use Rattle.tables.specs.Layout.{nodeAt, pendingPlace};
 ghost use Rattle.tables.specs.Refusal.{refusal};
 ghost use Rattle.tables.specs.Pending.{pendingOf, pendingGood};
 ghost use Rattle.process.specs.Answer.{refusedAs};
-ghost use Rattle.help.specs.Touch.{out};
-ghost use Rattle.help.specs.Help.{topOf, helpEnded, topGood, helpGood};
+ghost use Rattle.help.specs.Help.{helpedL, helpedP, helpedThird, topOf, helpEnded, topGood, helpGood};
 ghost use Rattle.help.specs.Help.{helping as helpingOf};
-ghost use Rattle.help.specs.Rows.{nonEmpty, recordHelped};
-
-mod finish;
-
+ghost use Rattle.help.specs.Reads.{nonEmpty};
 use process::Answer;
 use process::Process;
 use process::Stepped;
+use tables::choice;
 use tables::header;
 use tables::header::Header;
 use tables::node::Kin;
@@ -46,16 +45,12 @@ pub fn top_of(block: &[u32], h: Header, n: u32, q: Process) -> u32
 }
 
 // Help ends: the top record's point 10, or yes at 8 and 14 if the own record is set, or a restart.
-fn help_ended(last: bool, top: u32, q: Process) -> Stepped
+pub fn help_ended(last: bool, top: u32, q: Process) -> Stepped
     ensures { λ r. ⌜ r ≡ helpEnded last top q ⌝ }
 {
     if q.depth == 0 {
-        if last {
-            if q.own == 0 {
-                process::goes_on(process::restarted(q))
-            } else {
-                process::ends(q, Answer::Yes)
-            }
+        if choice::and(last, q.own != 0) {
+            process::ends(q, Answer::Yes)
         } else {
             process::goes_on(process::restarted(q))
         }
@@ -76,7 +71,7 @@ pub fn helping(top: u32, q: Process, seen: Pending) -> Stepped
 }
 
 // A stack top that is made the record helped is a prune.
-fn top_good(block: &[u32], h: Header, depth: u32, top: u32) -> bool
+pub fn top_good(block: &[u32], h: Header, depth: u32, top: u32) -> bool
     ensures { λ r. ⌜ r ≡ topGood (now (block .entry)) h depth top ⌝ }
 {
     if depth == 0 {
@@ -97,15 +92,6 @@ pub fn help_good(block: &[u32], h: Header, depth: u32, top: u32, seen: Pending) 
     }
 }
 
-// The swap of one word, where it was seen as the word to be swapped.
-fn swap(block: &mut [u32], at: u64, seen: u32, from: u32, to: u32)
-    ensures { λ r. ⌜ now (block .exit) ≡ pick (eqb seen from) (set (now (block .entry)) at to) (now (block .entry)) ⌝ }
-{
-    if seen == from {
-        words::put_at(block, at, to);
-    }
-}
-
 // "internal or holding a key"
 pub fn non_empty(kin: Kin) -> bool
     ensures { λ r. ⌜ r ≡ nonEmpty kin ⌝ }
@@ -116,16 +102,30 @@ pub fn non_empty(kin: Kin) -> bool
     }
 }
 
-// A record helped, from 6 on: it is checked whole, then the row of its point is done.
-pub fn help_record(block: &mut [u32], h: Header, n: u32, q: Process) -> Stepped
-    ensures { λ r. ⌜ out r (now (block .exit)) ≡ recordHelped (now (block .entry)) h n q ⌝ }
+// Of the record being helped: l, p, and the third, which is the new child or gp.
+pub fn helped_l(block: &[u32], h: Header, q: Process) -> u32
+    ensures { λ r. ⌜ r ≡ helpedL (now (block .entry)) h q ⌝ }
 {
-    if q.point < 6 {
-        return damaged(q);
-    }
-    if damage::helped::helped_good(block, h, q) {
-        finish::row(block, h, n, q)
-    } else {
-        damaged(q)
+    header::record_word(block, h, q.helped, 1)
+}
+
+pub fn helped_p(block: &[u32], h: Header, q: Process) -> u32
+    ensures { λ r. ⌜ r ≡ helpedP (now (block .entry)) h q ⌝ }
+{
+    header::record_word(block, h, q.helped, 2)
+}
+
+pub fn helped_third(block: &[u32], h: Header, q: Process) -> u32
+    ensures { λ r. ⌜ r ≡ helpedThird (now (block .entry)) h q ⌝ }
+{
+    header::record_word(block, h, q.helped, 3)
+}
+
+// The swap of a node's pending from a flag of the record helped to clean with its number: a flag without its kind is that.
+pub fn clear_flag(block: &mut [u32], h: Header, node: u32, word: u32, helped: u32, kind: u32)
+    ensures { λ r. ⌜ now (block .exit) ≡ pick (eqb word (4 * helped + kind)) (set (now (block .entry)) (nodeAt h node (pendingPlace (h .k))) (4 * helped)) (now (block .entry)) ⌝ }
+{
+    if (word as u64) == 4 * (helped as u64) + (kind as u64) {
+        words::put_at(block, header::pending_at(h, node), word - kind);
     }
 }

@@ -20,7 +20,9 @@ use Rattle.process.specs.declared.Process.{Process}
 use Rattle.process.specs.Process.{withDepth, restartedOf}
 use Rattle.process.specs.Answer.{answer, goingOn, endingOf}
 use Rattle.help.specs.Help.{topOf, helpEnded, topGood}
-use Rattle.help.specs.Rows.{seenGood, unflag, unflagRow, popGood, underTop, row8, row10, row14, touch10}
+use Rattle.help.specs.Reads.{seenGood, unflag}
+use Rattle.finish.specs.Rows.{unflagRow, row8, row14}
+use Rattle.mark.specs.Rows.{popGood, underTop, row10, touch10}
 use Rattle.history.specs.View.{In}
 use Rattle.history.specs.Shared.{Shared, Failed, Stands, stands-replace, stands-prune}
 use Rattle.history.specs.Change.{SwapPend, unflag-replace, unflag-prune}

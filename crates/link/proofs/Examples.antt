@@ -14,7 +14,7 @@ use Rattle.damage.specs.Fields as fields
 use Rattle.damage.specs.Helped.{recordGood, helpedGood}
 use Rattle.draws.specs.Draw.{leavesFrom, committed, replaceDrawn}
 use Rattle.help.specs.Help.{helpEnded}
-use Rattle.help.specs.Rows.{lookRow, hangRow, unflagRow, row6, row7, row8, helpRow}
+use Rattle.finish.specs.Rows.{lookRow, hangRow, unflagRow, row6, row7, row8}
 use Rattle.flag.specs.Rows.{row4}
 use Rattle.points.specs.Rows.{row1, row2, rowOf}
 use Rattle.index.specs.Calls.{startCall, stepCall}
@@ -44,11 +44,11 @@ unfolding made numbersGood both pick
 reached = reached-fresh 2 1 16 8 (replicate 155 0) (idle ∷ []) refl (omega arith) (omega arith) proper
 
 pub answered : Answered made run-b 8 1 Yes 8
-unfolding made run-b stateAt pick both listed numbersGood headerGood rises holds firstAt fields.numbersGood fields.nodesGood fields.recordsGood fields.usesGood fields.processGood recordGood helpedGood leavesFrom committed replaceDrawn helpEnded lookRow hangRow unflagRow row1 row2 row4 row6 row7 row8 rowOf helpRow startCall stepCall
+unfolding made run-b stateAt pick both listed numbersGood headerGood rises holds firstAt fields.numbersGood fields.nodesGood fields.recordsGood fields.usesGood fields.processGood recordGood helpedGood leavesFrom committed replaceDrawn helpEnded lookRow hangRow unflagRow row1 row2 row4 row6 row7 row8 rowOf startCall stepCall
 answered = record { event = refl; answer = refl }
 
 inserting : taken (stateAt made run-b 8) 1 .operation ≡ 2
-unfolding made run-b stateAt pick both listed numbersGood headerGood rises holds firstAt fields.numbersGood fields.nodesGood fields.recordsGood fields.usesGood fields.processGood recordGood helpedGood leavesFrom committed replaceDrawn helpEnded lookRow hangRow unflagRow row1 row2 row4 row6 row7 row8 rowOf helpRow startCall stepCall
+unfolding made run-b stateAt pick both listed numbersGood headerGood rises holds firstAt fields.numbersGood fields.nodesGood fields.recordsGood fields.usesGood fields.processGood recordGood helpedGood leavesFrom committed replaceDrawn helpEnded lookRow hangRow unflagRow row1 row2 row4 row6 row7 row8 rowOf startCall stepCall
 inserting = refl
 
 pub behind : Behind made run-b 8 1

@@ -26,7 +26,7 @@ use Rattle.draws.specs.Draw.{newNode, newRecord, roomFor, sprouts, neededNodes,
 use Rattle.draws.proofs.After.{Room, room-is}
 use Rattle.help.specs.Touch.{seenBy, succeeds}
 use Rattle.help.specs.Help.{topOf, helping, helpGood}
-use Rattle.help.specs.Rows.{seenGood, kinAt}
+use Rattle.help.specs.Reads.{seenGood, kinAt}
 use Rattle.flag.specs.Rows.{jobOf, flagGood, touch4, touch5, heldGood, leafGood4, room4, row4, row5}
 use Rattle.history.specs.View.{In, keys}
 use Rattle.history.specs.Shared.{Shared}

@@ -18,7 +18,8 @@ use Rattle.tables.proofs.Picks.{both-is}
 use Rattle.process.specs.declared.Process.{Process}
 use Rattle.process.specs.Process.{withPoint, withIndex}
 use Rattle.process.specs.Answer.{goingOn}
-use Rattle.help.specs.Rows.{childGood, swapChild, hangRow, row6, row7, row12, row13}
+use Rattle.help.specs.Reads.{childGood, swapChild}
+use Rattle.finish.specs.Rows.{hangRow, row6, row7, row12, row13}
 use Rattle.history.specs.View.{In}
 use Rattle.history.specs.Shared.{Shared}
 use Rattle.history.specs.Change.{SwapChild, SameTables, swap-replace, swap-prune}

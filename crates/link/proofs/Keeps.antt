@@ -22,7 +22,9 @@ use Rattle.draws.specs.Draw.{newRecord}
 use Rattle.help.specs.Touch.{Row, seenBy}
 use Rattle.tables.specs.Pending.{pendingOf}
 use Rattle.help.specs.Help.{topOf, helping, helpEnded}
-use Rattle.help.specs.Rows.{kinAt, touch9, lookRow, hangRow, unflagRow, row6, row7, row8, row9, row10, row11, row12, row13, row14}
+use Rattle.help.specs.Reads.{kinAt}
+use Rattle.finish.specs.Rows.{lookRow, hangRow, unflagRow, row6, row7, row8, row12, row13, row14}
+use Rattle.mark.specs.Rows.{touch9, row9, row10, row11}
 use Rattle.flag.specs.Rows.{touch4, touch5, row4, row5}
 use Rattle.points.specs.Rows.{touch2, atLeaf, atChild, row1, row2, row3, rowOf}
 use Rattle.points.proofs.Steps.{row-at-1, row-at-2, row-at-3, row-at-4, row-at-5, row-at-6, row-at-7, row-at-8, row-at-9, row-at-10, row-at-11, row-at-12, row-at-13, row-at-14}

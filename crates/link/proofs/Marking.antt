@@ -21,7 +21,8 @@ use Rattle.process.specs.declared.Process.{Process}
 use Rattle.process.specs.Process.{withIndex, withOther, withDepth, toEleven, toTwelve}
 use Rattle.process.specs.Answer.{goingOn}
 use Rattle.help.specs.Help.{helping}
-use Rattle.help.specs.Rows.{seenGood, childGood, touch9, row9, touch11, notes, otherWith, notedGood, noted, row11}
+use Rattle.help.specs.Reads.{seenGood, childGood}
+use Rattle.mark.specs.Rows.{touch9, row9, touch11, notes, otherWith, notedGood, noted, row11}
 use Rattle.history.specs.View.{In}
 use Rattle.history.specs.Shared.{Desc, Shared, Failed}
 use Rattle.history.specs.Change.{mark}

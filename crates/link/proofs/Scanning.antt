@@ -19,7 +19,7 @@ use Rattle.tables.proofs.Picks.{both-1, both-2}
 use Rattle.process.specs.declared.Process.{Process}
 use Rattle.process.specs.Process.{withPoint, withIndex, withMask}
 use Rattle.process.specs.Answer.{goingOn}
-use Rattle.help.specs.Rows.{kinAt, nonEmpty}
+use Rattle.help.specs.Reads.{kinAt, nonEmpty}
 use Rattle.points.specs.Rows.{maskWith, pointAfter3, scanned3, row3}
 use Rattle.history.specs.View.{In}
 use Rattle.history.specs.Shared.{Shared}

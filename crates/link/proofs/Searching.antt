@@ -25,7 +25,7 @@ use Rattle.process.specs.declared.Process.{Process}
 use Rattle.process.specs.Process.{withPoint, withPSeen, withL, descendedOf, toThree, isCleanOf}
 use Rattle.process.specs.Answer.{answer, goingOn}
 use Rattle.help.specs.Help.{helping}
-use Rattle.help.specs.Rows.{childGood, kinAt}
+use Rattle.help.specs.Reads.{childGood, kinAt}
 use Rattle.points.specs.Rows.{touch2, row1, row2, insertAt, deleteAt, findAt, atLeaf, atChild, leafGood2}
 use Rattle.history.specs.View.{In, route, keys}
 use Rattle.history.specs.Shared.{Shared}

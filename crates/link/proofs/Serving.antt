@@ -16,7 +16,7 @@ use Rattle.process.specs.declared.Process.{Process}
 use Rattle.process.specs.declared.Stepped.{Stepped}
 use Rattle.process.specs.Process.{withPoint, withIndex}
 use Rattle.process.specs.Answer.{goingOn}
-use Rattle.help.specs.Rows.{lookRow}
+use Rattle.finish.specs.Rows.{lookRow}
 use Rattle.history.specs.View.{In}
 use Rattle.history.specs.Shared.{Shared}
 use Rattle.history.specs.Run.{Step}

@@ -7,6 +7,8 @@ pub mod Damage
 pub mod Draws
 pub mod Help
 pub mod Flag
+pub mod Finish
+pub mod Mark
 pub mod Points
 pub mod Walk
 pub mod Print

@@ -27,9 +27,11 @@ use Rattle.process.specs.declared.Stepped.{Stepped}
 use Rattle.draws.specs.Draw.{newRecord, roomFor, neededNodes}
 use Rattle.help.specs.Touch.{seenBy, succeeds, Row, Out}
 use Rattle.help.specs.Help.{helpedL, helpedP, helpedThird, topOf, helpEnded, helping}
-use Rattle.help.specs.Rows.{kinAt, touch11, lookedFor, lookRow, hangRow, unflagRow, touch9, underTop, notes, otherWith, noted, row6, row7, row8, row9, row10, row11, row12, row13, row14, noRow}
+use Rattle.help.specs.Reads.{kinAt}
+use Rattle.finish.specs.Rows.{lookedFor, lookRow, hangRow, unflagRow, row6, row7, row8, row12, row13, row14}
+use Rattle.mark.specs.Rows.{touch11, touch9, underTop, notes, otherWith, noted, row9, row10, row11}
 use Rattle.flag.specs.Rows.{touch4, touch5, room4, row4, row5}
-use Rattle.points.specs.Rows.{touch1, touch2, touch3, maskWith, pointAfter3, scanned3, insertAt, deleteAt, findAt, atLeaf, atChild, row1, row2, row3, rowOf}
+use Rattle.points.specs.Rows.{touch1, touch2, touch3, maskWith, pointAfter3, scanned3, insertAt, deleteAt, findAt, atLeaf, atChild, row1, row2, row3, rowOf, noRow}
 use Rattle.points.specs.Step.{stepOf}
 use Rattle.points.proofs.Steps.{each-row}
 use Rattle.points.proofs.Accepted.{Accepted, accepted-known, accepted-does}

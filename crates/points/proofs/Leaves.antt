@@ -25,9 +25,10 @@ use Rattle.damage.specs.Helped.{kindAt, placesGood, recordGood, helpedGood}
 use Rattle.draws.specs.Draw.{roomFor, replaceDrawn, pruneDrawn}
 use Rattle.help.specs.Touch.{Touch, reads, swaps, touchedNode, touchedWord, succeeds, touched, Row}
 use Rattle.help.specs.Help.{helpedP, helpedThird}
-use Rattle.help.specs.Rows.{touch9, marked, lookRow, hangRow, unflagRow, row6, row7, row8, row9, row10, row11, row12, row13, row14, noRow}
+use Rattle.finish.specs.Rows.{lookRow, hangRow, unflagRow, row6, row7, row8, row12, row13, row14}
+use Rattle.mark.specs.Rows.{touch9, marked, row9, row10, row11}
 use Rattle.flag.specs.Rows.{jobOf, touch4, touch5, row4, row5}
-use Rattle.points.specs.Rows.{row1, row2, row3, rowOf}
+use Rattle.points.specs.Rows.{row1, row2, row3, rowOf, noRow}
 use Rattle.points.proofs.Steps.{each-row}
 use Rattle.points.proofs.Accepted.{Known}
 use Rattle.points.proofs.Counted.{flagPoint, neededAt, flagsAt, drawsAt, fullAt}

@@ -29,7 +29,7 @@ use Rattle.process.specs.declared.Answer.the-variants.{No, Yes}
 use Rattle.process.specs.declared.Stepped.{Stepped}
 use Rattle.help.specs.Touch.{out, rowDone}
 use Rattle.help.specs.Help.{helping}
-use Rattle.help.specs.Rows.{nonEmpty}
+use Rattle.help.specs.Reads.{nonEmpty}
 use Rattle.points.specs.Rows.{findAt, insertAt, deleteAt, atLeaf, atChild, leafGood2, maskWith, pointAfter3, scanned3, row1, row2, row3}
 use Rattle.help.proofs.Rowed.{row-done, row-not, row-rest, below-is}
 

@@ -1,9 +1,10 @@
 -- A step and a start, return by return: the row of each point, what a sound record leaves to arithmetic, and the refusals.
-use Prim.Native.Nat.{ℕ, _≤_, _<_}
+use Prim.Native.Nat.{ℕ, _+_, _*_, _≤_, _<_}
 use mathlib.Core.Path.{_≡_, refl, sym, ap, _∙_}
 use mathlib.Core.Bool.{Bool, true, false, not}
 use mathlib.Core.List.{List}
 use native.Mathlib.Omega.{arith}
+use lib.Dec.{ltb}
 use borrow.Author.Tests.{leb-true, lt-ltb, le-ltb, eq-eqb, ne-eqb}
 use Rattle.tables.specs.Choice.{pick, both, within}
 use Rattle.tables.specs.Numbers.{infinity}
@@ -17,20 +18,20 @@ use Rattle.tables.specs.declared.numbers.Refusal.{Refusal}
 use Rattle.tables.specs.declared.numbers.Refusal.the-variants.{TooShort, NoSuchProcess, UnknownOperation, InfinityGiven, Busy, Idle}
 use Rattle.tables.specs.declared.pending.Pending.{Pending}
 use Rattle.tables.specs.declared.pending.Pending.the-variants.{Clean, Replace, Prune, Mark}
-use Rattle.tables.proofs.Picks.{both-1, both-2, within-high}
+use Rattle.tables.proofs.Picks.{both-1, both-2, pick-false, within-high}
 use Rattle.tables.proofs.Limits.{Limits, limits, read-header, read-limits, read-refuses, read-accepts}
 use Rattle.process.specs.Process.{startedAs}
 use Rattle.process.specs.Answer.{refusedAs}
 use Rattle.process.specs.declared.Process.{Process}
 use Rattle.process.specs.declared.Stepped.{Stepped}
 use Rattle.damage.specs.Fields.{processGood, numbersGood, recordsGood}
-use Rattle.damage.specs.Helped.{helpedGood}
+use Rattle.damage.specs.Helped.{recordGood, helpedGood}
 use Rattle.help.specs.Touch.{Row, Out, out, rowDone}
-use Rattle.help.specs.Rows.{row6, row7, row8, row9, row10, row11, row12, row13, row14, noRow, helpRow, helpedDone, recordHelped}
-use Rattle.help.proofs.Rowed.{at-row, each-help}
-use Rattle.help.proofs.Records.{none-helped, help-at-6, help-at-7, help-at-8, help-at-9, help-at-10, help-at-11, help-at-12, help-at-13, help-at-14}
+use Rattle.finish.specs.Rows.{row6, row7, row8, row12, row13, row14}
+use Rattle.mark.specs.Rows.{row9, row10, row11, pruneMarked}
+use Rattle.help.proofs.Rowed.{row-not, at-row}
 use Rattle.flag.specs.Rows.{row4, row5, pruneFlagged}
-use Rattle.points.specs.Rows.{row1, row2, row3, rowOf}
+use Rattle.points.specs.Rows.{row1, row2, row3, rowOf, noRow}
 use Rattle.points.specs.Step.{stepRefused, stepDone, stepOf, soundStep, started, startOf}
 use Rattle.points.specs.Parts.{Ready, stepGood, startKnown, startGood}
 use Rattle.points.specs.declared.start.StartAnswer.the-variants as answers
@@ -47,7 +48,17 @@ module _ (P : Row → Type 0) (b : List ℕ) (h : Header) (n : ℕ) (q : Process
       at-row P (q .point) 1 _ _ r1
       (at-row P (q .point) 2 _ _ r2
       (at-row P (q .point) 3 _ _ r3
-      (at-row P (q .point) 4 _ _ r4 (at-row P (q .point) 5 _ _ r5 (each-help P b h n q r6 r7 r8 r9 r10 r11 r12 r13 r14 none)))))
+      (at-row P (q .point) 4 _ _ r4
+      (at-row P (q .point) 5 _ _ r5
+      (at-row P (q .point) 6 _ _ r6
+      (at-row P (q .point) 7 _ _ r7
+      (at-row P (q .point) 8 _ _ r8
+      (at-row P (q .point) 9 _ _ r9
+      (at-row P (q .point) 10 _ _ r10
+      (at-row P (q .point) 11 _ _ r11
+      (at-row P (q .point) 12 _ _ r12
+      (at-row P (q .point) 13 _ _ r13
+      (at-row P (q .point) 14 _ _ r14 none)))))))))))))
 
 module _ (b : List ℕ) (h : Header) (n : ℕ) (q : Process) where
   pub row-at-1 : q .point ≡ 1 → rowOf b h n q ≡ row1 b h q
@@ -70,67 +81,127 @@ module _ (b : List ℕ) (h : Header) (n : ℕ) (q : Process) where
   unfolding rowOf pick
   row-at-5 e = rw e refl
 
-  -- a point that is none of 1 to 5 is help's
-  row-past : (q .point ≡ 1 → ⊥) → (q .point ≡ 2 → ⊥) → (q .point ≡ 3 → ⊥) → (q .point ≡ 4 → ⊥) → (q .point ≡ 5 → ⊥) → rowOf b h n q ≡ helpRow b h n q
-  unfolding rowOf pick
-  row-past f1 f2 f3 f4 f5 = rw (ne-eqb (q .point) 1 f1, ne-eqb (q .point) 2 f2, ne-eqb (q .point) 3 f3, ne-eqb (q .point) 4 f4, ne-eqb (q .point) 5 f5) refl
-
-  row-late : 6 ≤ q .point → rowOf b h n q ≡ helpRow b h n q
-  row-late p = row-past (λ z. omega arith) (λ z. omega arith) (λ z. omega arith) (λ z. omega arith) (λ z. omega arith)
-
   pub row-at-6 : q .point ≡ 6 → rowOf b h n q ≡ row6 b h q
-  row-at-6 e = row-late (omega arith) ∙ help-at-6 b h n q e
+  unfolding rowOf pick
+  row-at-6 e = rw e refl
 
   pub row-at-7 : q .point ≡ 7 → rowOf b h n q ≡ row7 b h q
-  row-at-7 e = row-late (omega arith) ∙ help-at-7 b h n q e
+  unfolding rowOf pick
+  row-at-7 e = rw e refl
 
   pub row-at-8 : q .point ≡ 8 → rowOf b h n q ≡ row8 b h n q
-  row-at-8 e = row-late (omega arith) ∙ help-at-8 b h n q e
+  unfolding rowOf pick
+  row-at-8 e = rw e refl
 
   pub row-at-9 : q .point ≡ 9 → rowOf b h n q ≡ row9 b h n q
-  row-at-9 e = row-late (omega arith) ∙ help-at-9 b h n q e
+  unfolding rowOf pick
+  row-at-9 e = rw e refl
 
   pub row-at-10 : q .point ≡ 10 → rowOf b h n q ≡ row10 b h n q
-  row-at-10 e = row-late (omega arith) ∙ help-at-10 b h n q e
+  unfolding rowOf pick
+  row-at-10 e = rw e refl
 
   pub row-at-11 : q .point ≡ 11 → rowOf b h n q ≡ row11 b h q
-  row-at-11 e = row-late (omega arith) ∙ help-at-11 b h n q e
+  unfolding rowOf pick
+  row-at-11 e = rw e refl
 
   pub row-at-12 : q .point ≡ 12 → rowOf b h n q ≡ row12 b h q
-  row-at-12 e = row-late (omega arith) ∙ help-at-12 b h n q e
+  unfolding rowOf pick
+  row-at-12 e = rw e refl
 
   pub row-at-13 : q .point ≡ 13 → rowOf b h n q ≡ row13 b h q
-  row-at-13 e = row-late (omega arith) ∙ help-at-13 b h n q e
+  unfolding rowOf pick
+  row-at-13 e = rw e refl
 
   pub row-at-14 : q .point ≡ 14 → rowOf b h n q ≡ row14 b h n q
-  row-at-14 e = row-late (omega arith) ∙ help-at-14 b h n q e
+  unfolding rowOf pick
+  row-at-14 e = rw e refl
 
-  fits-row : Ready q → pruneFlagged b h n q ≡ rowDone b q (row5 b h n q)
+  fits-5 : Ready q → pruneFlagged b h n q ≡ rowDone b q (row5 b h n q)
   unfolding pruneFlagged pick
-  fits-row r = rw (lt-ltb (wordOf (q .pseen)) 4294967296 (r .pseen-small)) refl
+  fits-5 r = rw (lt-ltb (wordOf (q .pseen)) 4294967296 (r .pseen-small)) refl
+
+  fits-9 : Ready q → q .point ≡ 9 → pruneMarked b h n q ≡ rowDone b q (row9 b h n q)
+  unfolding pruneMarked pick
+  fits-9 r e = rw (lt-ltb (4 * q .helped + 3) 4294967296 (omega (arith, r .helped-small (omega arith)))) refl
 
   module _ (s : Stepped) (e : List ℕ) where
-    pub at-1 : q .point ≡ 1 → out s e ≡ rowDone b q (row1 b h q) → out s e ≡ helpedDone b h q (rowOf b h n q)
-    at-1 f g = g ∙ ap (rowDone b q) (sym (row-at-1 f)) ∙ sym (none-helped b h q (rowOf b h n q) (omega arith))
+    pub at-1 : q .point ≡ 1 → out s e ≡ rowDone b q (row1 b h q) → out s e ≡ rowDone b q (rowOf b h n q)
+    at-1 f g = g ∙ ap (rowDone b q) (sym (row-at-1 f))
 
-    pub at-2 : q .point ≡ 2 → out s e ≡ rowDone b q (row2 b h q) → out s e ≡ helpedDone b h q (rowOf b h n q)
-    at-2 f g = g ∙ ap (rowDone b q) (sym (row-at-2 f)) ∙ sym (none-helped b h q (rowOf b h n q) (omega arith))
+    pub at-2 : q .point ≡ 2 → out s e ≡ rowDone b q (row2 b h q) → out s e ≡ rowDone b q (rowOf b h n q)
+    at-2 f g = g ∙ ap (rowDone b q) (sym (row-at-2 f))
 
-    pub at-3 : q .point ≡ 3 → out s e ≡ rowDone b q (row3 b h q) → out s e ≡ helpedDone b h q (rowOf b h n q)
-    at-3 f g = g ∙ ap (rowDone b q) (sym (row-at-3 f)) ∙ sym (none-helped b h q (rowOf b h n q) (omega arith))
+    pub at-3 : q .point ≡ 3 → out s e ≡ rowDone b q (row3 b h q) → out s e ≡ rowDone b q (rowOf b h n q)
+    at-3 f g = g ∙ ap (rowDone b q) (sym (row-at-3 f))
 
-    pub at-4 : q .point ≡ 4 → out s e ≡ rowDone b q (row4 b h n q) → out s e ≡ helpedDone b h q (rowOf b h n q)
-    at-4 f g = g ∙ ap (rowDone b q) (sym (row-at-4 f)) ∙ sym (none-helped b h q (rowOf b h n q) (omega arith))
+    pub at-4 : q .point ≡ 4 → out s e ≡ rowDone b q (row4 b h n q) → out s e ≡ rowDone b q (rowOf b h n q)
+    at-4 f g = g ∙ ap (rowDone b q) (sym (row-at-4 f))
 
     -- the value read on the way down is a word in a sound record
-    pub at-5 : Ready q → q .point ≡ 5 → out s e ≡ pruneFlagged b h n q → out s e ≡ helpedDone b h q (rowOf b h n q)
-    at-5 r f g = g ∙ fits-row r ∙ ap (rowDone b q) (sym (row-at-5 f)) ∙ sym (none-helped b h q (rowOf b h n q) (omega arith))
+    pub at-5 : Ready q → q .point ≡ 5 → out s e ≡ pruneFlagged b h n q → out s e ≡ rowDone b q (rowOf b h n q)
+    at-5 r f g = g ∙ fits-5 r ∙ ap (rowDone b q) (sym (row-at-5 f))
 
-    pub at-past : (q .point ≡ 1 → ⊥) → (q .point ≡ 2 → ⊥) → (q .point ≡ 3 → ⊥) → (q .point ≡ 4 → ⊥) → (q .point ≡ 5 → ⊥) → out s e ≡ recordHelped b h n q → out s e ≡ helpedDone b h q (rowOf b h n q)
-    at-past f1 f2 f3 f4 f5 g = g ∙ ap (helpedDone b h q) (sym (row-past f1 f2 f3 f4 f5))
+    pub at-6 : q .point ≡ 6 → out s e ≡ rowDone b q (row6 b h q) → out s e ≡ rowDone b q (rowOf b h n q)
+    at-6 f g = g ∙ ap (rowDone b q) (sym (row-at-6 f))
 
-    pub at-zero : q .point ≡ 0 → out s e ≡ recordHelped b h n q → out s e ≡ helpedDone b h q (rowOf b h n q)
-    at-zero f = at-past (λ z. omega arith) (λ z. omega arith) (λ z. omega arith) (λ z. omega arith) (λ z. omega arith)
+    pub at-7 : q .point ≡ 7 → out s e ≡ rowDone b q (row7 b h q) → out s e ≡ rowDone b q (rowOf b h n q)
+    at-7 f g = g ∙ ap (rowDone b q) (sym (row-at-7 f))
+
+    pub at-8 : q .point ≡ 8 → out s e ≡ rowDone b q (row8 b h n q) → out s e ≡ rowDone b q (rowOf b h n q)
+    at-8 f g = g ∙ ap (rowDone b q) (sym (row-at-8 f))
+
+    -- and the number of a sound record has room in a mark
+    pub at-9 : Ready q → q .point ≡ 9 → out s e ≡ pruneMarked b h n q → out s e ≡ rowDone b q (rowOf b h n q)
+    at-9 r f g = g ∙ fits-9 r f ∙ ap (rowDone b q) (sym (row-at-9 f))
+
+    pub at-10 : q .point ≡ 10 → out s e ≡ rowDone b q (row10 b h n q) → out s e ≡ rowDone b q (rowOf b h n q)
+    at-10 f g = g ∙ ap (rowDone b q) (sym (row-at-10 f))
+
+    pub at-11 : q .point ≡ 11 → out s e ≡ rowDone b q (row11 b h q) → out s e ≡ rowDone b q (rowOf b h n q)
+    at-11 f g = g ∙ ap (rowDone b q) (sym (row-at-11 f))
+
+    pub at-12 : q .point ≡ 12 → out s e ≡ rowDone b q (row12 b h q) → out s e ≡ rowDone b q (rowOf b h n q)
+    at-12 f g = g ∙ ap (rowDone b q) (sym (row-at-12 f))
+
+    pub at-13 : q .point ≡ 13 → out s e ≡ rowDone b q (row13 b h q) → out s e ≡ rowDone b q (rowOf b h n q)
+    at-13 f g = g ∙ ap (rowDone b q) (sym (row-at-13 f))
+
+    pub at-14 : q .point ≡ 14 → out s e ≡ rowDone b q (row14 b h n q) → out s e ≡ rowDone b q (rowOf b h n q)
+    at-14 f g = g ∙ ap (rowDone b q) (sym (row-at-14 f))
+
+  -- a point outside the fourteen has no row
+  no-row : (q .point ≡ 1 → ⊥) → (q .point ≡ 2 → ⊥) → (q .point ≡ 3 → ⊥) → (q .point ≡ 4 → ⊥) → (q .point ≡ 5 → ⊥) → (q .point ≡ 6 → ⊥) → (q .point ≡ 7 → ⊥) → (q .point ≡ 8 → ⊥) → (q .point ≡ 9 → ⊥) → (q .point ≡ 10 → ⊥) → (q .point ≡ 11 → ⊥) → (q .point ≡ 12 → ⊥) → (q .point ≡ 13 → ⊥) → (q .point ≡ 14 → ⊥) → rowOf b h n q ≡ noRow b q
+  unfolding rowOf pick
+  no-row f1 f2 f3 f4 f5 f6 f7 f8 f9 f10 f11 f12 f13 f14 =
+      rw (
+        ne-eqb (q .point) 1 f1,
+        ne-eqb (q .point) 2 f2,
+        ne-eqb (q .point) 3 f3,
+        ne-eqb (q .point) 4 f4,
+        ne-eqb (q .point) 5 f5,
+        ne-eqb (q .point) 6 f6,
+        ne-eqb (q .point) 7 f7,
+        ne-eqb (q .point) 8 f8,
+        ne-eqb (q .point) 9 f9,
+        ne-eqb (q .point) 10 f10,
+        ne-eqb (q .point) 11 f11,
+        ne-eqb (q .point) 12 f12,
+        ne-eqb (q .point) 13 f13,
+        ne-eqb (q .point) 14 f14,
+      )
+      refl
+
+  module _ (s : Stepped) (e : s ≡ refusedAs q (refusal 3)) where
+    not-a-row : out s b ≡ rowDone b q (noRow b q)
+    unfolding noRow
+    not-a-row = row-not b q (noRow b q) s refl e
+
+    pub at-none : (q .point ≡ 1 → ⊥) → (q .point ≡ 2 → ⊥) → (q .point ≡ 3 → ⊥) → (q .point ≡ 4 → ⊥) → (q .point ≡ 5 → ⊥) → (q .point ≡ 6 → ⊥) → (q .point ≡ 7 → ⊥) → (q .point ≡ 8 → ⊥) → (q .point ≡ 9 → ⊥) → (q .point ≡ 10 → ⊥) → (q .point ≡ 11 → ⊥) → (q .point ≡ 12 → ⊥) → (q .point ≡ 13 → ⊥) → (q .point ≡ 14 → ⊥) → out s b ≡ rowDone b q (rowOf b h n q)
+    at-none f1 f2 f3 f4 f5 f6 f7 f8 f9 f10 f11 f12 f13 f14 = not-a-row ∙ ap (rowDone b q) (sym (no-row f1 f2 f3 f4 f5 f6 f7 f8 f9 f10 f11 f12 f13 f14))
+
+    pub at-zero : q .point ≡ 0 → out s b ≡ rowDone b q (rowOf b h n q)
+    at-zero f = at-none (λ z. omega arith) (λ z. omega arith) (λ z. omega arith) (λ z. omega arith) (λ z. omega arith) (λ z. omega arith) (λ z. omega arith) (λ z. omega arith) (λ z. omega arith) (λ z. omega arith) (λ z. omega arith) (λ z. omega arith) (λ z. omega arith) (λ z. omega arith)
 
 -- a pending that is good has a record number that fits a word
 record-small : (b : List ℕ) (h : Header) (v : Pending) → h .recordsused ≤ 4096 → pendingGood b h v ≡ true → wordOf v < 4294967296
@@ -156,27 +227,33 @@ module _ (b : List ℕ) (h : Header) (q : Process) where
   unfolding recordsGood
   pseen-of e = both-1 _ _ e
 
-  ready-with : Limits h → processGood b h q ≡ true → Ready q
-  ready-with l e = record {
+  helped-used : 6 ≤ q .point → helpedGood b h q ≡ true → q .helped ≤ h .recordsused
+  unfolding helpedGood recordGood
+  helped-used p f = within-high 1 (q .helped) _ (both-1 _ _ (both-1 _ _ (sym (pick-false (ltb (q .point) 6) true _ (le-ltb (q .point) 6 p)) ∙ f)))
+
+  ready-with : Limits h → processGood b h q ≡ true → helpedGood b h q ≡ true → Ready q
+  ready-with l e f = record {
     index-small = omega (arith, index-of (numbers-of e));
     pseen-small = record-small b h (q .pseen) (omega arith) (pseen-of (records-of e));
+    helped-small = λ p. omega (arith, helped-used p f);
   }
 
-  pub ready : (t : Bool) → headerGood h ≡ true → t ≡ processGood b h q → t ≡ true → Ready q
-  ready t g e f = ready-with (limits h g) (sym e ∙ f)
+  pub ready : (t : Bool) → headerGood h ≡ true → t ≡ both (processGood b h q) (helpedGood b h q) → t ≡ true → Ready q
+  ready t g e f = ready-with (limits h g) (both-1 _ _ (sym e ∙ f)) (both-2 _ _ (sym e ∙ f))
 
--- a step that has come as far as the damage checks: its record is checked here, the record helped and the row after it
-damage-rest : (p f r : Bool) (x y : Out) → p ≡ true → pick f (pick r y x) x ≡ pick (not (both p (both f r))) x y
+-- a step that has come as far as the damage checks: the process record and the record helped are checked, then the row
+damage-rest : (p f r : Bool) (x y : Out) → both p f ≡ true → pick r y x ≡ pick (not (both p (both f r))) x y
 unfolding pick both
 damage-rest true true true x y e = refl
 damage-rest true true false x y e = refl
-damage-rest true false r x y e = refl
+damage-rest true false r x y e = let z : _≡_ {A = ℕ} 0 1 = cc in absurd (omega arith)
 damage-rest false f r x y e = let z : _≡_ {A = ℕ} 0 1 = cc in absurd (omega arith)
 
-damage-found : (p r : Bool) (x y : Out) → p ≡ false → x ≡ pick (not (both p r)) x y
+damage-found : (p f r : Bool) (x y : Out) → both p f ≡ false → x ≡ pick (not (both p (both f r))) x y
 unfolding pick both
-damage-found true r x y e = let z : _≡_ {A = ℕ} 0 1 = cc in absurd (omega arith)
-damage-found false r x y e = refl
+damage-found true true r x y e = let z : _≡_ {A = ℕ} 0 1 = cc in absurd (omega arith)
+damage-found true false r x y e = refl
+damage-found false f r x y e = refl
 
 module _ (b : List ℕ) (h : Header) (rows n : ℕ) (q : Process) (s : Stepped) where
   pub step-short : rows < h .processes → s ≡ refusedAs q TooShort → out s b ≡ stepGood b h rows n q
@@ -196,17 +273,28 @@ module _ (b : List ℕ) (h : Header) (rows n : ℕ) (q : Process) (s : Stepped) 
       unfolding pick
       step-idle f g = rw (le-ltb rows (h .processes) long, is-there, eq-eqb (q .operation) 0 f, g) refl
 
-      module _ (busy : q .operation ≡ 0 → ⊥) (u : Bool) (f : u ≡ processGood b h q) where
+      module _ (busy : q .operation ≡ 0 → ⊥) (u : Bool) (f : u ≡ both (processGood b h q) (helpedGood b h q)) where
         left-to : stepGood b h rows n q ≡ pick (not (soundStep b h n q)) (stepRefused b q 3) (stepDone b h n q)
         unfolding pick
         left-to = rw (le-ltb rows (h .processes) long, is-there, ne-eqb (q .operation) 0 busy) refl
 
         pub step-bad : u ≡ false → s ≡ refusedAs q (refusal 3) → out s b ≡ stepGood b h rows n q
-        step-bad j k = ap (λ (x : Stepped). out x b) k ∙ damage-found _ _ _ _ (sym f ∙ j) ∙ sym left-to
+        step-bad j k = ap (λ (x : Stepped). out x b) k ∙ damage-found (processGood b h q) (helpedGood b h q) _ _ _ (sym f ∙ j) ∙ sym left-to
 
-        pub step-row : (e′ : List ℕ) → u ≡ true → out s e′ ≡ helpedDone b h q (rowOf b h n q) → out s e′ ≡ stepGood b h rows n q
-        unfolding helpedDone rowDone
+        pub step-row : (e′ : List ℕ) → u ≡ true → out s e′ ≡ rowDone b q (rowOf b h n q) → out s e′ ≡ stepGood b h rows n q
+        unfolding rowDone
         step-row e′ j k = k ∙ damage-rest (processGood b h q) (helpedGood b h q) (rowOf b h n q .sound) _ _ (sym f ∙ j) ∙ sym left-to
+
+module _ (b : List ℕ) (h : Header) (q : Process) (t u : Bool) (e : t ≡ processGood b h q) where
+  pub sound-both : t ≡ true → u ≡ helpedGood b h q → u ≡ both (processGood b h q) (helpedGood b h q)
+  unfolding both
+  sound-both f g = cc
+
+  pub sound-first : t ≡ false → false ≡ both (processGood b h q) (helpedGood b h q)
+  unfolding both
+  sound-first f = cc
+
+pub ruleset sounds = (sound-both, sound-first)
 
 pub ruleset steps = (step-short, step-nobody, step-idle, step-bad, step-row)
 

@@ -11,10 +11,11 @@ use Rattle.points.specs.Step.{rowReasons, stepRest, stepRefused, stepDon
 use Rattle.points.specs.declared.start.StartAnswer.the-variants.{Accepted}
 use Rattle.points.specs.declared.start.Started.{Started}
 
--- what the fields of a sound process record leave to the arithmetic of its row
+-- what the fields of a sound process record, and from 6 on the record helped, leave to the arithmetic of its row
 pub record Ready (q : Process) : Type 0 where
   pub index-small : q .index ≤ 8
   pub pseen-small : wordOf (q .pseen) < 4294967296
+  pub helped-small : 6 ≤ q .point → q .helped ≤ 65535
 
 -- a step once the header is read
 abbrev pub stepGood : List ℕ → Header → ℕ → ℕ → Process → Out

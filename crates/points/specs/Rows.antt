@@ -1,11 +1,12 @@
--- The fourteen points of document 01: here 1 to 3, one definition for each row, beside the row's words and the lines of the report's Figures 9 and 10; 4 and 5 stand in flag's Rows, 6 to 14 in help's.
+-- The fourteen points of document 01: here 1 to 3, one definition for each row, beside the row's words and the lines of the report's Figures 9 and 10; 4 and 5 stand in flag's Rows, 9 to 11 in mark's, the others in finish's.
 use Prim.Native.Nat.{ℕ, _+_, _-_, _^_}
-use mathlib.Core.Bool.{Bool, true, not}
+use mathlib.Core.Bool.{Bool, true, false, not}
 use mathlib.Core.List.{List}
 use lib.Bits.{bitOr}
 use lib.Count.{ones}
 use lib.Dec.{ltb, eqb}
 use Rattle.tables.specs.Choice.{pick, both}
+use Rattle.tables.specs.Refusal.{refusal}
 use Rattle.tables.specs.Layout.{tagWord}
 use Rattle.tables.specs.Pending.{pendingOf}
 use Rattle.tables.specs.Keys.{keysOf, rises, holds, routeOf}
@@ -13,13 +14,15 @@ use Rattle.tables.specs.declared.header.Header.{Header}
 use Rattle.tables.specs.declared.node.Kin.{Kin}
 use Rattle.tables.specs.declared.node.Kin.the-variants.{Leaf, Internal}
 use Rattle.process.specs.Process.{withPoint, withPSeen, withL, withIndex, withMask, descendedOf, toThree, isCleanOf}
-use Rattle.process.specs.Answer.{answer, goingOn, endingOf}
+use Rattle.process.specs.Answer.{answer, goingOn, endingOf, refusedAs}
 use Rattle.process.specs.declared.Process.{Process}
 use Rattle.process.specs.declared.Stepped.{Stepped}
-use Rattle.help.specs.Touch.{Touch, seenBy, Row}
+use Rattle.help.specs.Touch.{Touch, reads, seenBy, Row}
 use Rattle.help.specs.Help.{helping}
-use Rattle.help.specs.Rows.{readPending, readChild, seenGood, childGood, kinAt, nonEmpty, helpRow}
+use Rattle.help.specs.Reads.{readPending, readChild, seenGood, childGood, kinAt, nonEmpty}
 use Rattle.flag.specs.Rows.{row4, row5}
+use Rattle.finish.specs.Rows.{row6, row7, row8, row12, row13, row14}
+use Rattle.mark.specs.Rows.{row9, row10, row11}
 
 -- 1. "Read p's pending. To 2." (Figure 9, lines 27 and 33.)
 abbrev pub touch1 : Header → Process → Touch
@@ -102,6 +105,10 @@ row3 b h q = record {
   block = b;
 }
 
+-- a point outside the fourteen has no row, and is damage
+unfoldable pub noRow : List ℕ → Process → Row
+noRow b q = record { touch = reads 0 0; sound = false; stepped = refusedAs q (refusal 3); block = b }
+
 -- "Each accepted step does the one row of its point"
 unfoldable pub rowOf : List ℕ → Header → ℕ → Process → Row
 rowOf b h n q =
@@ -110,4 +117,13 @@ rowOf b h n q =
     (pick (eqb (q .point) 3) (row3 b h q)
     (pick (eqb (q .point) 4) (row4 b h n q)
     (pick (eqb (q .point) 5) (row5 b h n q)
-    (helpRow b h n q)))))
+    (pick (eqb (q .point) 6) (row6 b h q)
+    (pick (eqb (q .point) 7) (row7 b h q)
+    (pick (eqb (q .point) 8) (row8 b h n q)
+    (pick (eqb (q .point) 9) (row9 b h n q)
+    (pick (eqb (q .point) 10) (row10 b h n q)
+    (pick (eqb (q .point) 11) (row11 b h q)
+    (pick (eqb (q .point) 12) (row12 b h q)
+    (pick (eqb (q .point) 13) (row13 b h q)
+    (pick (eqb (q .point) 14) (row14 b h n q)
+    (noRow b q))))))))))))))

@@ -8,15 +8,13 @@ pub help-ended-spec : {M : Type 1} → statement M
 help-ended-spec =
     tie.close
     (tie.spec
+    (λ c κs. search needs)  -- and-requires
+    (λ c κs. search needs)  -- ends-requires
     (λ c κs. search needs)  -- restarted-requires
     (λ c κs. search needs)  -- goes-on-requires
-    (λ c κs. search needs)  -- ends-requires
-    (λ c κs. search needs)  -- restarted-requires-2
-    (λ c κs. search needs)  -- goes-on-requires-2
     (λ c κs. search needs)  -- to-ten-requires
-    (λ c κs. search needs)  -- goes-on-requires-3
+    (λ c κs. search needs)  -- goes-on-2-requires
     (λ c. search ended)  -- returns
     (λ c. search ended)  -- returns-2
     (λ c. search ended)  -- returns-3
-    (λ c. search ended)  -- returns-4
     )

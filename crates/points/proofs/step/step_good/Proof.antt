@@ -15,8 +15,8 @@ step-good-spec =
     (λ c κs. search needs)  -- within-requires
     (λ c κs. search needs)  -- refused-requires-2
     (λ c. search steps)  -- returns-2
-    (λ c κs. search needs)  -- process-good-requires
-    (λ c κs. ready _ _ _ _ (c .before .before .before .before .before .before .before .before .before .before .before .before .pre) (c .before .before .process-good .ensures) (c .before .if4 .taken))  -- row-requires
+    (λ c κs. search needs)  -- step-sound-requires
+    (λ c κs. ready _ _ _ _ (c .before .before .before .before .before .before .before .before .before .before .before .before .pre) (c .before .before .step-sound .ensures) (c .before .if4 .taken))  -- row-requires
     (λ c κs. search needs)  -- damaged-requires
     (λ c κs. search needs)  -- refused-requires-3
     (λ c. search needs)  -- same-length

@@ -1,0 +1,2 @@
+-- The laws of points 9, 10, 11.
+pub mod Marks
