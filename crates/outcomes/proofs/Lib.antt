@@ -10,6 +10,8 @@ pub mod Flag
 pub mod Finish
 pub mod Mark
 pub mod Points
+pub mod Meter
+pub mod Fill
 pub mod Walk
 pub mod Print
 pub mod Script

@@ -14,7 +14,7 @@ use Rattle.finish.specs.Rows.{row6, row7, row8, row12, row13, row14, lookRow, h
 use Rattle.mark.specs.Rows.{row9, row10, row11}
 use Rattle.flag.specs.Rows.{row4, row5}
 use Rattle.points.specs.Rows.{row1, row2, row3, rowOf, noRow}
-use Rattle.walk.specs.Walk.{inOrder, walkOf}
+use Rattle.meter.specs.Walk.{inOrder, walkOf}
 use Rattle.index.specs.Calls.{startCall, stepCall}
 use Rattle.runs.specs.Run.{many, run, measured, expected}
 use Rattle.runs.specs.Table.{table}

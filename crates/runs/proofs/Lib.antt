@@ -1,2 +1,3 @@
--- The table holds.
+-- The table holds; the listing of a fresh tree.
 pub mod Holds
+pub mod Examples

@@ -19,8 +19,9 @@ use Rattle.tables.specs.declared.numbers.Refusal.{Refusal}
 use Rattle.tables.specs.declared.numbers.Refusal.the-variants.{ListTooShort, InfinityGiven, LowAboveHigh}
 use Rattle.tables.proofs.Picks.{either-some}
 use Rattle.tables.proofs.OneToOne.{none-accepts}
-use Rattle.walk.specs.Walk.{walked}
-use Rattle.walk.specs.Calls.{keysMet, listRest, listReasons, ListOut, listOut, listOf, partOf, anyWithin, ClearOf, Between, rangeRest, rangeReasons, rangeOf}
+use Rattle.meter.specs.Walk.{walked}
+use Rattle.meter.specs.Measure.{anyWithin}
+use Rattle.walk.specs.Calls.{keysMet, listRest, listReasons, ListOut, listOut, listOf, partOf, ClearOf, Between, rangeRest, rangeReasons, rangeOf}
 use Rattle.walk.specs.declared.Listed.the-variants.{Count, Refused as ListRefused}
 use Rattle.walk.specs.declared.Cleared.the-variants.{No, Yes, Refused as RangeRefused}
 use Rattle.walk.proofs.Answers.{one-listed, list-first-says, list-counts, range-first-says, Among, any-between, none-clear, clear-yes, range-between-no, yes-clear, no-between}

@@ -16,7 +16,7 @@ use Rattle.tables.specs.declared.header.Header.{Header}
 use Rattle.tables.specs.declared.node.Kin.the-variants.{Leaf, Internal}
 use Rattle.tables.specs.declared.node.Child.{Child}
 use Rattle.tables.specs.declared.node.Child.the-variants.{Node}
-use Rattle.walk.specs.Walk.{Walk, walk, begin, spent, damaged, leafMet, inOrder, nodeMet, walkOf, walked}
+use Rattle.meter.specs.Walk.{Walk, walk, begin, spent, damaged, leafMet, inOrder, nodeMet, walkOf, walked}
 use Rattle.tables.proofs.Picks.{both-true}
 use Rattle.history.specs.View.{View, In, keys, Reach, top, by, Holds}
 use Rattle.history.specs.Keys.{Rises}

@@ -13,9 +13,10 @@ use Rattle.tables.specs.Layout.{overFront}
 use Rattle.tables.specs.declared.numbers.Refusal.{Refusal}
 use Rattle.tables.proofs.OneToOne.{refusal-number, none-accepts, tells, accepted-none, first-answers, answers-first}
 use Rattle.tables.proofs.Picks.{either-some, within-low, within-high}
+use Rattle.meter.specs.Measure.{anyWithin}
 use Rattle.walk.specs.Answer.{answered, refusedBy, listedSays, clearedSays, cleared}
-use Rattle.walk.specs.Calls.{keysMet, listReasons, ListOut, listOut, listOf, partOf, anyWithin, ClearOf, Between, rangeReasons, rangeOf}
-use Rattle.walk.specs.Passes.{filledOf}
+use Rattle.walk.specs.Calls.{keysMet, listReasons, ListOut, listOut, listOf, partOf, ClearOf, Between, rangeReasons, rangeOf}
+use Rattle.walk.specs.Parts.{filledOf}
 use Rattle.walk.specs.declared.Listed.{Listed}
 use Rattle.walk.specs.declared.Listed.the-variants.{Count, Refused as ListRefused}
 use Rattle.walk.specs.declared.Cleared.{Cleared}

@@ -18,10 +18,11 @@ use Rattle.tables.specs.declared.header.HeaderRead.the-variants.{Good, Refused}
 use Rattle.tables.specs.declared.numbers.Refusal.{Refusal}
 use Rattle.tables.specs.declared.numbers.Refusal.the-variants.{Damaged, InfinityGiven, ListTooShort, LowAboveHigh}
 use Rattle.tables.proofs.Limits.{read-header, read-refuses, read-accepts}
-use Rattle.walk.specs.Walk.{walked}
+use Rattle.meter.specs.Walk.{walked}
+use Rattle.meter.specs.Measure.{measureOf}
+use Rattle.meter.specs.declared.Meter.{Meter}
 use Rattle.walk.specs.Calls.{ListOut, listOut, listOf, listReasons, partOf, keysMet, rangeOf}
-use Rattle.walk.specs.Passes.{measureOf, listGood, rangeGood, filledOf}
-use Rattle.walk.specs.declared.meter.Meter.{Meter}
+use Rattle.walk.specs.Parts.{listGood, rangeGood, filledOf}
 use Rattle.walk.specs.declared.Listed.{Listed}
 use Rattle.walk.specs.declared.Listed.the-variants.{Count, Refused as ListRefused}
 use Rattle.walk.specs.declared.Cleared.{Cleared}

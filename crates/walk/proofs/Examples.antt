@@ -1,4 +1,4 @@
--- Computed: listing, its twin and range on a fresh block, on the block of run (d), and on damaged ones.
+-- Computed: listing, its twin and range on the block of run (d), and on damaged ones.
 use Prim.Native.Nat.{ℕ}
 use mathlib.Core.Path.{_≡_, refl}
 use mathlib.Core.List.{List, [], _∷_, _++_}
@@ -8,16 +8,11 @@ use Rattle.tables.specs.Numbers.{numbersGood}
 use Rattle.tables.specs.Header.{headerGood}
 use Rattle.tables.specs.Keys.{rises}
 use Rattle.tables.specs.declared.numbers.Refusal.the-variants.{Damaged, InfinityGiven, ListTooShort, LowAboveHigh}
-use Rattle.fresh.specs.Fresh.{freshHeader, freshBlock}
-use Rattle.walk.specs.Walk.{inOrder, walkOf}
-use Rattle.walk.specs.Calls.{listOut, listOf, partOf, anyWithin, rangeOf}
+use Rattle.meter.specs.Walk.{inOrder, walkOf}
+use Rattle.meter.specs.Measure.{anyWithin}
+use Rattle.walk.specs.Calls.{listOut, listOf, partOf, rangeOf}
 use Rattle.walk.specs.declared.Listed.the-variants.{Count, Refused as ListRefused}
 use Rattle.walk.specs.declared.Cleared.the-variants.{No, Yes, Refused as RangeRefused}
-
--- the set of a fresh tree is empty
-pub list-fresh : listOf (freshBlock (freshHeader 2 1 16 8)) (7 ∷ 7 ∷ []) ≡ listOut (Count 0) (7 ∷ 7 ∷ [])
-unfolding pick both listed numbersGood headerGood rises inOrder walkOf
-list-fresh = refl
 
 -- 3 and 5 inserted, as run (d) leaves the block: node 7 is internal, with the leaves 8 and 9
 abbrev two : List ℕ

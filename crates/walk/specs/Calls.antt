@@ -1,16 +1,17 @@
 -- Listing, its twin and range: when each is refused, and what it answers and leaves.
 use Prim.Native.Nat.{ℕ, _≤_}
-use mathlib.Core.Bool.{Bool, false, not}
+use mathlib.Core.Bool.{not}
 use mathlib.Core.List.{List, [], _∷_, _++_}
 use lib.Dec.{ltb, eqb}
 use lib.ListN.{length}
-use Rattle.tables.specs.Choice.{pick, either, within, Reason, reason, decide}
+use Rattle.tables.specs.Choice.{pick, either, Reason, reason, decide}
 use Rattle.tables.specs.Numbers.{infinity}
 use Rattle.tables.specs.Refusal.{refusal}
 use Rattle.tables.specs.Header.{headerOf, blockReasons}
 use Rattle.tables.specs.Layout.{overFront}
 use Rattle.tables.specs.declared.header.Header.{Header}
-use Rattle.walk.specs.Walk.{walked}
+use Rattle.meter.specs.Walk.{walked}
+use Rattle.meter.specs.Measure.{anyWithin}
 use Rattle.walk.specs.Answer.{cleared}
 use Rattle.walk.specs.declared.Listed.{Listed}
 use Rattle.walk.specs.declared.Listed.the-variants.{Count, Refused as ListRefused}
@@ -45,11 +46,6 @@ listOf b list =
 -- "a twin call does the same and hands back the filled part of the caller's list, empty if refused"
 abbrev pub partOf : List ℕ → List ℕ → List ℕ
 partOf b list = decide (listReasons b (length list)) (λ n. []) (keysMet b)
-
--- a key lies from low to high, ends included
-unfoldable pub anyWithin : ℕ → ℕ → List ℕ → Bool
-anyWithin low high [] = false
-anyWithin low high (x ∷ xs) = either (within low x high) (anyWithin low high xs)
 
 -- of a set, by what is in it: no key of it lies from low to high, ends included; one does
 abbrev pub ClearOf : (ℕ → Type 0) → ℕ → ℕ → Type 0

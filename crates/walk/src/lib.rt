@@ -2,11 +2,7 @@
 // Every public function is total: it asks nothing of its caller and states its result, and every lent word, on every input.
 ghost use mathlib.Core.Path.{_≡_};
 ghost use Rattle.walk.specs.Calls.{listOut, listOf, partOf, rangeOf};
-ghost use Rattle.walk.specs.Passes.{listGood, rangeGood, filledOf};
-
-mod fill;
-mod meter;
-
+ghost use Rattle.walk.specs.Parts.{listGood, rangeGood, filledOf};
 use tables::header;
 use tables::header::Header;
 use tables::header::HeaderRead;

@@ -1,0 +1,2 @@
+-- The laws of the filling pass.
+pub mod Storing
