@@ -14,7 +14,7 @@ use Rattle.tables.specs.Layout.{blockWords}
 use Rattle.fresh.specs.Fresh.{freshHeader}
 use Rattle.fresh.specs.declared.Made.the-variants.{Done, Refused}
 use Rattle.process.specs.declared.Process.{Process}
-use Rattle.index.specs.Calls.{makeCall}
+use Rattle.make.specs.Make.{makeCall}
 use Rattle.link.specs.Events.{Event, AllProper, State, freshState}
 use Rattle.link.proofs.Origins.{reached-fresh}
 use Rattle.claim.proofs.Claimed.{claimed}

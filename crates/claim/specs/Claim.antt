@@ -16,7 +16,7 @@ use Rattle.process.specs.declared.Answer.{Answer}
 use Rattle.process.specs.declared.Answer.the-variants.{No, Yes, Full}
 use Rattle.process.specs.declared.StepAnswer.the-variants as steps
 use Rattle.points.specs.declared.start.StartAnswer.the-variants as starts
-use Rattle.index.specs.Calls.{makeCall}
+use Rattle.make.specs.Make.{makeCall}
 use Rattle.walk.specs.Calls.{listOut, listOf, partOf, ClearOf, Between, rangeOf}
 use Rattle.walk.specs.declared.Listed.the-variants as listed
 use Rattle.walk.specs.declared.Cleared.the-variants as cleared

@@ -21,7 +21,8 @@ use Rattle.points.specs.Rows.{rowOf}
 use Rattle.points.specs.Step.{startReasons, stepReasons}
 use Rattle.points.specs.declared.start.StartAnswer.{StartAnswer}
 use Rattle.points.specs.declared.start.StartAnswer.the-variants as starts
-use Rattle.index.specs.Calls.{recordOf, makeReasons, MakeOut, makeOut, makeCall, StartOut, startOut, startCall, StepOut, stepOut, stepBy, stepCall}
+use Rattle.make.specs.Make.{makeReasons, MakeOut, makeOut, makeCall}
+use Rattle.index.specs.Calls.{recordOf, StartOut, startOut, startCall, StepOut, stepOut, stepBy, stepCall}
 use Rattle.index.specs.Answers.{done, answers, refuses, madeSays, startSays, stepSays}
 
 -- "Answers: 0 no, 1 yes, 2 full."

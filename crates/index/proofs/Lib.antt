@@ -1,9 +1,6 @@
--- The laws of the calls: a row of process records, loans of a row, and the calls' theorems.
-pub mod Rows
+-- The laws of the calls: loans of a row, and the calls' theorems.
 pub mod Shared
-pub mod Lent
 pub mod Called
 pub mod OneRecord
-pub mod ByValue
 pub mod Refusals
 pub mod Answers

@@ -30,7 +30,7 @@ use Rattle.process.specs.Process.{idle}
 use Rattle.process.specs.declared.Process.{Process}
 use Rattle.process.proofs.Process as T
 use Rattle.process.proofs.Process.Laws as T′
-use Rattle.index.proofs.Rows.{mvals}
+use Rattle.make.proofs.Rows.{mvals}
 use Rattle.index.proofs.place_of as place-of
 use Rattle.index.proofs.take as take
 use Rattle.index.proofs.put as put

@@ -1,4 +1,4 @@
--- "A refusal returns its number and changes nothing lent": each call is refused n exactly when reason n holds and none before it, and leaves block and row alone then; else one record changes, or the fresh tree stands.
+-- "A refusal returns its number and changes nothing lent": a start or a step is refused n exactly when reason n holds and none before it, and leaves block and row alone then; else one record changes.
 use Prim.Native.Nat.{ℕ, _-_, _≤_}
 use mathlib.Core.Path.{_≡_, refl, ap}
 use mathlib.Core.Bool.{true}
@@ -11,13 +11,9 @@ use lib.Seq.{getD-set-same, getD-set-other}
 use Rattle.tables.specs.Choice.{both, within, Reason, NoneHolds, nor, First}
 use Rattle.tables.specs.Refusal.{numberOf, refusal}
 use Rattle.tables.specs.Header.{headerOf, blockReasons}
-use Rattle.tables.specs.Layout.{overFront}
 use Rattle.tables.specs.declared.numbers.Refusal.{Refusal}
 use Rattle.tables.proofs.Picks.{within-low, within-high}
 use Rattle.tables.proofs.OneToOne.{none-accepts, call-leaves, call-exactly}
-use Rattle.fresh.specs.Fresh.{freshHeader, freshBlock, freshRow}
-use Rattle.fresh.specs.declared.Made.the-variants as made
-use Rattle.fresh.proofs.Refusals.{one-made, not-done}
 use Rattle.process.specs.Process.{idle, startedAs}
 use Rattle.process.specs.declared.Process.{Process}
 use Rattle.process.specs.declared.StepAnswer.the-variants as steps
@@ -27,21 +23,7 @@ use Rattle.points.specs.Step.{rowReasons, startRest, startReasons, stepRest, st
 use Rattle.points.specs.declared.start.StartAnswer.the-variants as starts
 use Rattle.points.proofs.Counted.{never-refused}
 use Rattle.points.proofs.Refusals.{one-step, one-start, not-accepted}
-use Rattle.index.specs.Calls.{recordOf, withRecord, makeReasons, MakeOut, makeOut, makeCall, StartOut, startOut, startCall, StepOut, stepOut, stepBy, stepCall}
-
-module _ (b : List ℕ) (row : List Process) (k p n r : ℕ) where
-  module _ (e : Refusal) where
-    pub make-exactly : (makeCall b row k p n r .answer ≡ made.Refused e) ↔ First (numberOf e) (makeReasons b (length row) k p n r)
-    unfolding makeCall both
-    make-exactly = call-exactly (λ (o : MakeOut). o .answer) made.Refused (λ d. makeOut (made.Refused d) b row) _ (makeReasons b (length row) k p n r) (λ d. refl) one-made (λ g. not-done) refl e
-
-    pub make-keeps : makeCall b row k p n r .answer ≡ made.Refused e → makeCall b row k p n r ≡ makeOut (made.Refused e) b row
-    unfolding makeCall both
-    make-keeps = call-leaves (λ (o : MakeOut). o .answer) made.Refused (λ d. makeOut (made.Refused d) b row) _ (makeReasons b (length row) k p n r) (λ d. refl) one-made (λ g. not-done) refl e
-
-  pub make-accepted : NoneHolds (makeReasons b (length row) k p n r) → makeCall b row k p n r ≡ makeOut made.Done (overFront (freshBlock (freshHeader k p n r)) b) (overFront (freshRow idle (freshHeader k p n r)) row)
-  unfolding makeCall
-  make-accepted g = none-accepts (λ i. makeOut (made.Refused (refusal i)) b row) _ (makeReasons b (length row) k p n r) g
+use Rattle.index.specs.Calls.{recordOf, withRecord, StartOut, startOut, startCall, StepOut, stepOut, stepBy, stepCall}
 
 -- "2 for the rest, then 4": the row has a record of process n
 in-row : (b : List ℕ) (rows n : ℕ) (rest : List Reason) → NoneHolds (blockReasons b ++ (rowReasons (headerOf b) rows n ++ rest)) → (1 ≤ n) × (n ≤ rows)

@@ -1,17 +1,10 @@
--- Document 01, "What a call returns": making, a start and a step over a lent block and a lent row of process records. Each says its answer, the whole block and the whole row afterwards, on every input.
+-- Document 01, "What a call returns": a start and a step over a lent block and a lent row of process records. Each says its answer, the whole block and the whole row afterwards, on every input.
 use Prim.Native.Nat.{ℕ, _-_}
-use mathlib.Core.Bool.{not}
-use mathlib.Core.List.{List, [], _∷_}
-use lib.Dec.{ltb}
+use mathlib.Core.List.{List}
 use lib.ListN.{length, getD, set}
-use Rattle.tables.specs.Choice.{Reason, reason, decide}
-use Rattle.tables.specs.Numbers.{kStored, numbersGood}
+use Rattle.tables.specs.Choice.{decide}
 use Rattle.tables.specs.Refusal.{refusal}
-use Rattle.tables.specs.Layout.{blockWords, overFront}
 use Rattle.tables.specs.Header.{headerOf}
-use Rattle.fresh.specs.Fresh.{freshHeader, freshBlock, freshRow}
-use Rattle.fresh.specs.declared.Made.{Made}
-use Rattle.fresh.specs.declared.Made.the-variants as made
 use Rattle.process.specs.Process.{idle, startedAs}
 use Rattle.process.specs.declared.Process.{Process}
 use Rattle.process.specs.declared.StepAnswer.{StepAnswer}
@@ -28,30 +21,6 @@ recordOf row n = getD row (n - 1) idle
 
 abbrev pub withRecord : List Process → ℕ → Process → List Process
 withRecord row n q = set row (n - 1) q
-
--- "Making checks 1, 2": 2 for the block, and for the row
-abbrev pub makeReasons : List ℕ → ℕ → ℕ → ℕ → ℕ → ℕ → List Reason
-makeReasons b rows k processes nodes records =
-    reason 1 (not (numbersGood (kStored k) processes nodes records))
-    ∷ reason 2 (ltb (length b) (blockWords (freshHeader k processes nodes records)))
-    ∷ reason 2 (ltb rows processes)
-    ∷ []
-
--- what a making answers, and the block and the row then
-pub record MakeOut : Type 0 where
-  pub answer : Made
-  pub block : List ℕ
-  pub row : List Process
-
-abbrev pub makeOut : Made → List ℕ → List Process → MakeOut
-makeOut a b row = record { answer = a; block = b; row = row }
-
--- "Fresh tree (Figure 6)", "all process records idle"; "Words and records beyond those needed are untouched."
-unfoldable pub makeCall : List ℕ → List Process → ℕ → ℕ → ℕ → ℕ → MakeOut
-makeCall b row k processes nodes records =
-    decide (makeReasons b (length row) k processes nodes records)
-    (λ n. makeOut (made.Refused (refusal n)) b row)
-    (makeOut made.Done (overFront (freshBlock (freshHeader k processes nodes records)) b) (overFront (freshRow idle (freshHeader k processes nodes records)) row))
 
 -- what a start answers, and the row then; the block is lent to be read
 pub record StartOut : Type 0 where

@@ -1,4 +1,3 @@
--- What a reader must believe of the calls: each call, and its answers in numbers, as definitions. `Parts` are steps on the way to a call, for the proofs only.
+-- What a reader must believe of the calls: start and step, and the answers of all in numbers, as definitions.
 pub mod Calls
 pub mod Answers
-pub mod Parts

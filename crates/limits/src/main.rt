@@ -1,6 +1,5 @@
 // Document 01, "To run only": what is tried at the limits, a line for each call and its answer behind it, all with 32 processes.
 use fresh::Made;
-use index::held;
 use libc::STDOUT_FILENO;
 use print::lines::Making;
 use print::lines::StartLine;

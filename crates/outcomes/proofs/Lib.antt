@@ -15,5 +15,7 @@ pub mod Fill
 pub mod Walk
 pub mod Print
 pub mod Script
+pub mod Make
 pub mod Index
+pub mod Held
 pub mod Session

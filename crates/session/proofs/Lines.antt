@@ -16,10 +16,11 @@ use Rattle.process.specs.declared.Answer.{Answer}
 use Rattle.process.specs.declared.StepAnswer.{StepAnswer}
 use Rattle.process.specs.declared.StepAnswer.the-variants as step
 use Rattle.points.specs.declared.start.StartAnswer.the-variants as start
-use Rattle.index.specs.Calls.{recordOf, makeOut, makeCall, startOut, startCall, stepOut, stepCall, StepOut}
-use Rattle.index.specs.declared.held.HeldMade.{HeldMade}
-use Rattle.index.specs.declared.held.HeldStart.{HeldStart}
-use Rattle.index.specs.declared.held.HeldStep.{HeldStep}
+use Rattle.make.specs.Make.{makeOut, makeCall}
+use Rattle.index.specs.Calls.{recordOf, startOut, startCall, stepOut, stepCall, StepOut}
+use Rattle.held.specs.declared.HeldMade.{HeldMade}
+use Rattle.held.specs.declared.HeldStart.{HeldStart}
+use Rattle.held.specs.declared.HeldStep.{HeldStep}
 use Rattle.walk.specs.Calls.{listOut, listOf}
 use Rattle.walk.specs.declared.Listed.{Listed}
 use Rattle.walk.specs.declared.Listed.the-variants as listed

@@ -16,7 +16,8 @@ use Rattle.process.specs.declared.StepAnswer.{StepAnswer}
 use Rattle.process.specs.declared.StepAnswer.the-variants as step
 use Rattle.points.specs.declared.start.StartAnswer.{StartAnswer}
 use Rattle.points.specs.declared.start.StartAnswer.the-variants as start
-use Rattle.index.specs.Calls.{recordOf, makeCall, startCall, stepCall, StepOut, stepOut}
+use Rattle.make.specs.Make.{makeCall}
+use Rattle.index.specs.Calls.{recordOf, startCall, stepCall, StepOut, stepOut}
 use Rattle.walk.specs.Calls.{listOf}
 use Rattle.walk.specs.declared.Listed.{Listed}
 use Rattle.walk.specs.declared.Listed.the-variants as listed

@@ -5,9 +5,8 @@ ghost use Rattle.session.specs.Line.{withinBench, begun, turnOf, did, do
 ghost use Rattle.session.specs.declared.line.Said.the-variants.{Refused};
 ghost use Rattle.session.specs.declared.line.Stage.the-variants.{Ended, Made as MadeStage};
 use fresh::Made;
+use held::HeldStep;
 use index::Listed;
-use index::held;
-use index::held::HeldStep;
 use points::start::StartAnswer;
 use print::lines::AnswerLine;
 use print::lines::CountLine;

@@ -12,7 +12,7 @@ use Rattle.tables.proofs.Lists.{left-over}
 use Rattle.fresh.specs.declared.Made.{Made}
 use Rattle.process.specs.Process.{idle}
 use Rattle.process.specs.declared.Process.{Process}
-use Rattle.index.specs.Calls.{MakeOut, makeOut, makeCall}
+use Rattle.make.specs.Make.{MakeOut, makeOut, makeCall}
 use Rattle.speed.specs.Operation.{operateOut, operateOf}
 use Rattle.speed.specs.Work.{isOver, talliedOf, periodOf, askedOf, changeOf, keyOf, TurnOut, turnOut, countedOf, didOf, turnOf, DoneOut, doneOut, soFar, doneFrom, nothingYet, RoundOut, roundOut, freshOf, changed, afterFinds, afterFilling, roundOf, roundsFrom}
 use Rattle.speed.specs.declared.work.Work.{Work}

@@ -6,7 +6,7 @@ use lib.Dec.{ltb, eqb}
 use lib.ListN.{replicate}
 use Rattle.tables.specs.Choice.{pick}
 use Rattle.process.specs.Process.{idle}
-use Rattle.index.specs.Calls.{makeCall}
+use Rattle.make.specs.Make.{makeCall}
 use Rattle.speed.specs.Operation.{OperateOut, operateOf}
 use Rattle.speed.specs.declared.work.Work.{Work}
 use Rattle.speed.specs.declared.work.Ending.{Ending}

@@ -5,7 +5,6 @@ ghost use Rattle.index.specs.Calls.{startCall};
 ghost use Rattle.speed.specs.Steps.{leftAfter, stepsOut, stepsFrom};
 ghost use Rattle.speed.specs.Operation.{endingOf, operateOut, operateOf};
 ghost use Rattle.speed.specs.Work.{keyOf, isOver, oneIf, mixedOf, talliedOf, nothingYet, periodOf, askedOf, changeOf, turnOut, turnOf, doneOut, doneFrom, freshOf, roundOut, roundOf, roundsFrom};
-use index::held;
 use process::Process;
 use process::StepAnswer;
 use tables::words;

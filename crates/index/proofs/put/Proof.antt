@@ -42,7 +42,7 @@ use Rattle.process.specs.declared.Process.{Process}
 use Rattle.process.specs.Process.{idle}
 use Rattle.process.proofs.Process as T
 use Rattle.process.proofs.Process.Laws as T′
-use Rattle.index.proofs.Rows.{size, mvals, mach, fits-in}
+use Rattle.make.proofs.Rows.{size, mvals, mach, fits-in}
 use Rattle.index.proofs.put.Key.{name as #index·put}
 use Rattle.index.proofs.put as f
 use Rattle.index.proofs.put.Statement as stated

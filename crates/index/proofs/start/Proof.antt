@@ -55,7 +55,7 @@ use Rattle.points.proofs.start.start as core
 use Rattle.points.proofs.start.start.Symbol as core-def
 use Rattle.points.proofs.start.start.Symbol.{name as #points·start·start}
 use Rattle.points.proofs.start.start.Met as core-thm
-use Rattle.index.proofs.Rows.{mvals}
+use Rattle.make.proofs.Rows.{mvals}
 use Rattle.index.proofs.Shared.{LentShared, lends-shared, shared-back}
 use Rattle.index.proofs.Called.{start-called}
 use Rattle.index.proofs.OneRecord.{PlaceOf, Take, Put, to-place, goes-place, said-place, row-as, row-own, to-take, goes-take, said-take, to-put, goes-put}

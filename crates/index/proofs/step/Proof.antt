@@ -56,7 +56,7 @@ use Rattle.points.proofs.step.step as core
 use Rattle.points.proofs.step.step.Symbol as core-def
 use Rattle.points.proofs.step.step.Symbol.{name as #points·step·step}
 use Rattle.points.proofs.step.step.Met as core-thm
-use Rattle.index.proofs.Rows.{mvals}
+use Rattle.make.proofs.Rows.{mvals}
 use Rattle.index.proofs.Shared.{LentShared, lends-shared, shared-back}
 use Rattle.index.proofs.Called.{step-called}
 use Rattle.index.proofs.OneRecord.{PlaceOf, Take, Put, to-place, goes-place, said-place, row-as, row-own, to-take, goes-take, said-take, to-put, goes-put}

@@ -44,7 +44,7 @@ use Rattle.process.specs.declared.Process.{Process}
 use Rattle.process.specs.Process.{idle}
 use Rattle.process.proofs.Process as T
 use Rattle.process.proofs.Process.Laws as T′
-use Rattle.index.proofs.Rows.{size, mvals, mach, fits-in}
+use Rattle.make.proofs.Rows.{size, mvals, mach, fits-in}
 use Rattle.process.proofs.idle_record as idle-record
 use Rattle.process.proofs.idle_record.Symbol as idle-record-def
 use Rattle.process.proofs.idle_record.Symbol.{name as #process·idle-record}

@@ -49,8 +49,8 @@ use Rattle.points.specs.declared.start.StartAnswer.{StartAnswer}
 use Rattle.points.proofs.start.StartAnswer as R
 use Rattle.points.proofs.start.StartAnswer.Laws as R′
 use Rattle.index.specs.Calls.{StartOut, startOut, startCall}
-use Rattle.index.proofs.Rows.{mvals}
-use Rattle.index.proofs.Lent.{Cell, lends-array, array-back}
+use Rattle.make.proofs.Rows.{mvals}
+use Rattle.held.proofs.Lent.{Cell, lends-array, array-back}
 use Rattle.speed.proofs.Turns.{Row, room-row}
 use Rattle.index.proofs.start as start
 use Rattle.index.proofs.start.Symbol as start-def

@@ -53,8 +53,8 @@ use Rattle.process.specs.declared.StepAnswer.{StepAnswer}
 use Rattle.process.proofs.StepAnswer as R
 use Rattle.process.proofs.StepAnswer.Laws as R′
 use Rattle.index.specs.Calls.{stepOut, stepCall}
-use Rattle.index.proofs.Rows.{mvals}
-use Rattle.index.proofs.Lent.{Cell, lends-array, array-back}
+use Rattle.make.proofs.Rows.{mvals}
+use Rattle.held.proofs.Lent.{Cell, lends-array, array-back}
 use Rattle.index.proofs.step as step
 use Rattle.index.proofs.step.Symbol as step-def
 use Rattle.index.proofs.step.Symbol.{name as #index·step}

@@ -46,29 +46,29 @@ use Rattle.tables.specs.Layout.{overFront}
 use Rattle.fresh.specs.declared.Made.{Made}
 use Rattle.fresh.proofs.Made as R
 use Rattle.fresh.proofs.Made.Laws as R′
-use Rattle.index.specs.Calls.{makeOut, makeCall}
-use Rattle.index.specs.Parts.{makingOut, makingOf}
-use Rattle.index.specs.declared.Making.{Making}
-use Rattle.index.proofs.Making as O
-use Rattle.index.proofs.Making.Laws as O′
-use Rattle.index.proofs.Rows.{mvals}
-use Rattle.index.proofs.Called.{make-called, making-fits}
-use Rattle.index.proofs.make_beside as make-beside
-use Rattle.index.proofs.make_beside.Symbol as make-beside-def
-use Rattle.index.proofs.make_beside.Symbol.{name as #index·make-beside}
-use Rattle.index.proofs.make_beside.Met as make-beside-thm
+use Rattle.make.specs.Make.{makeOut, makeCall}
+use Rattle.make.specs.Parts.{makingOut, makingOf}
+use Rattle.make.specs.declared.Making.{Making}
+use Rattle.make.proofs.Making as O
+use Rattle.make.proofs.Making.Laws as O′
+use Rattle.make.proofs.Rows.{mvals}
+use Rattle.make.proofs.Called.{make-called, making-fits}
+use Rattle.make.proofs.make_beside as make-beside
+use Rattle.make.proofs.make_beside.Symbol as make-beside-def
+use Rattle.make.proofs.make_beside.Symbol.{name as #make·make-beside}
+use Rattle.make.proofs.make_beside.Met as make-beside-thm
 use Rattle.process.proofs.idle_record as idle-record
 use Rattle.process.proofs.idle_record.Symbol as idle-record-def
 use Rattle.process.proofs.idle_record.Symbol.{name as #process·idle-record}
 use Rattle.process.proofs.idle_record.Met as idle-record-thm
-use Rattle.index.proofs.fill as fill
-use Rattle.index.proofs.fill.Symbol as fill-def
-use Rattle.index.proofs.fill.Symbol.{name as #index·fill}
-use Rattle.index.proofs.fill.Met as fill-thm
-use Rattle.index.proofs.make.Key.{name as #index·make}
-use Rattle.index.proofs.make as f
-use Rattle.index.proofs.make.Statement as stated
-use Rattle.index.proofs.make.Code as code
+use Rattle.make.proofs.fill as fill
+use Rattle.make.proofs.fill.Symbol as fill-def
+use Rattle.make.proofs.fill.Symbol.{name as #make·fill}
+use Rattle.make.proofs.fill.Met as fill-thm
+use Rattle.make.proofs.make.Key.{name as #make·make}
+use Rattle.make.proofs.make as f
+use Rattle.make.proofs.make.Statement as stated
+use Rattle.make.proofs.make.Code as code
 
 abbrev stayed : Stays (f.ended .signature .params) (f.ended .kept)
 stayed = (gave-slice (0 ∷ []) tt (plain (λ _. u32)), (gave-slice (1 ∷ []) tt (plain (λ _. T.the-row)), (stay-none (λ _. u32) yes, (stay-none (λ _. u32) yes, (stay-none (λ _. u32) yes, (stay-none (λ _. u32) yes, tt))))))
@@ -159,7 +159,7 @@ module _ {M : Type 1} (𝓤 : URA M) (H : Heap 𝓤) (A : Atoms 𝓤) (W : Given
       nothing ! $ owned ! u32 (Is u32) (uint-makes 𝓤 H A W w32) rc _ (refl, grc) $ fjoin ! $ owned ! u32 (Is u32) (uint-makes 𝓤 H A W w32) nd _ (refl, gnd) $ fjoin ! $ owned ! u32 (Is u32) (uint-makes 𝓤 H A W w32) p _ (refl, gp) $ fjoin ! $ owned ! u32 (Is u32) (uint-makes 𝓤 H A W w32) k _ (refl, gk) $ fjoin ! $
       move ! (1 ∷ 0 ∷ []) $ fjoin ! $ move ! (1 ∷ 0 ∷ []) $ fjoin ! $ frame ! $ owned ! R.the-row (Is R.the-row) (EL.makes R.the-type R′.the-plain 𝓤 H A) (m .made) _ gr $ done !
 
-  module _ (C : Calls 𝓤 H) (Λ : Loops 𝓤 H) (fm : FmC 𝓤 H (W .laws) C) (known-core : Triple 𝓤 (C #index·make-beside) (Core 𝓤 H A mem run)) (known-idle : Triple 𝓤 (C #process·idle-record) (Idle 𝓤 H A mem run)) (known-fill : Triple 𝓤 (C #index·fill) (Fill 𝓤 H A mem run)) where
+  module _ (C : Calls 𝓤 H) (Λ : Loops 𝓤 H) (fm : FmC 𝓤 H (W .laws) C) (known-core : Triple 𝓤 (C #make·make-beside) (Core 𝓤 H A mem run)) (known-idle : Triple 𝓤 (C #process·idle-record) (Idle 𝓤 H A mem run)) (known-fill : Triple 𝓤 (C #make·fill) (Fill 𝓤 H A mem run)) where
     walk : Room u32 (length ws) → Room T.the-row n → k < 2 ^ 32 → p < 2 ^ 32 → nd < 2 ^ 32 → rc < 2 ^ 32 → ent 𝓤 (onEntry 𝓤 H A f.signature (κ₀, (κ, tt)) (q₀, (q, tt)) a vals) (WpFn 𝓤 H C Λ code.function (v₀ ∷ v ∷ vint w32 k ∷ vint w32 p ∷ vint w32 nd ∷ vint w32 rc ∷ []) Post)
     walk room₀ room gk gp gnd grc =
         qed W ((‵ (flft κ₀ q₀) ⊛ ‵ (flft κ q) ⊛ ‵ ftrue) ∷ ‵ (owns (MutSlice (named 0) κ₀ u32 ∷ MutSlice (named 1) κ T.the-row ∷ u32 ∷ u32 ∷ u32 ∷ u32 ∷ []) a vals) ∷ []) ∵
@@ -233,13 +233,13 @@ module _ {M : Type 1} (𝓤 : URA M) (H : Heap 𝓤) (A : Atoms 𝓤) (W : Given
         keep ! (0 ∷ 1 ∷ 4 ∷ 5 ∷ []) $ by ! (exits m (c .0) (zs .0) gk gp gnd grc (fields .0) (make-called ws ys k p nd rc m (c .0) (zs .0) e₁ e₃) l₀′ l))))))))))))))))))))))))))))))))))
 
 module _ {M : Type 1} (𝓤 : URA M) (H : Heap 𝓤) (A : Atoms 𝓤) (W : Given 𝓤 H A) (mem : Memory → SProp 𝓤) (run : Routine → Fun 𝓤) where
-  walks : (C : Calls 𝓤 H) (Λ : Loops 𝓤 H) → FmC 𝓤 H (W .laws) C → Triple 𝓤 (C #index·make-beside) (Core 𝓤 H A mem run) → Triple 𝓤 (C #process·idle-record) (Idle 𝓤 H A mem run) → Triple 𝓤 (C #index·fill) (Fill 𝓤 H A mem run)
+  walks : (C : Calls 𝓤 H) (Λ : Loops 𝓤 H) → FmC 𝓤 H (W .laws) C → Triple 𝓤 (C #make·make-beside) (Core 𝓤 H A mem run) → Triple 𝓤 (C #process·idle-record) (Idle 𝓤 H A mem run) → Triple 𝓤 (C #make·fill) (Fill 𝓤 H A mem run)
       → Walks 𝓤 H A f.ended stayed (WpFn 𝓤 H C Λ code.function) (f.clauses 𝓤 H A mem run)
   walks C Λ fm kc ki kf = walked 𝓤 H A f.ended stayed (f.clauses 𝓤 H A mem run) (WpFn 𝓤 H C Λ code.function) (λ κs. (slice-vals, (slice-vals, (uint-vals w32, (uint-vals w32, (uint-vals w32, (uint-vals w32, tt))))))) (λ κs. (mut-slice-tells (named 0) (κs .0) u32, (mut-slice-tells (named 1) (κs .1 .0) T.the-row, (uint-tells w32, (uint-tells w32, (uint-tells w32, (uint-tells w32, tt)))))))
       (λ κs qs bounds a g are. via 𝓤 _ (fst∗ 𝓤 _ (emp 𝓤))
       (walk 𝓤 H A W mem run (κs .0) (κs .1 .0) (qs .0) (qs .1 .0) (a .0 .ptr .0) (a .0 .ptr .1) (a .0 .name) (a .0 .now) (a .1 .0 .ptr .0) (a .1 .0 .ptr .1) (a .1 .0 .name) (a .1 .0 .now) (a .1 .1 .0) (a .1 .1 .1 .0) (a .1 .1 .1 .1 .0) (a .1 .1 .1 .1 .1 .0) C Λ fm kc ki kf (are .0 .0 .1) (are .1 .0 .0 .1) (are .1 .1 .0 .1) (are .1 .1 .1 .0 .1) (are .1 .1 .1 .1 .0 .1) (are .1 .1 .1 .1 .1 .0 .1)))
 
-meets : {M : Type 1} (𝓤 : URA M) (H : Heap 𝓤) (A : Atoms 𝓤) → Given 𝓤 H A → (mem : Memory → SProp 𝓤) (run : Routine → Fun 𝓤) (𝓣 : Tables 𝓤 H) → Triple 𝓤 (𝓣 .C #index·make-beside) (Core 𝓤 H A mem run) → Triple 𝓤 (𝓣 .C #process·idle-record) (Idle 𝓤 H A mem run) → Triple 𝓤 (𝓣 .C #index·fill) (Fill 𝓤 H A mem run)
+meets : {M : Type 1} (𝓤 : URA M) (H : Heap 𝓤) (A : Atoms 𝓤) → Given 𝓤 H A → (mem : Memory → SProp 𝓤) (run : Routine → Fun 𝓤) (𝓣 : Tables 𝓤 H) → Triple 𝓤 (𝓣 .C #make·make-beside) (Core 𝓤 H A mem run) → Triple 𝓤 (𝓣 .C #process·idle-record) (Idle 𝓤 H A mem run) → Triple 𝓤 (𝓣 .C #make·fill) (Fill 𝓤 H A mem run)
     → Meets 𝓤 H A f.signature (WpFn 𝓤 H (𝓣 .C) (𝓣 .Λ) code.function) (f.spec 𝓤 H A mem run)
 meets 𝓤 H A W mem run 𝓣 kc ki kf = walk-meets 𝓤 H A f.ended stayed W (goes-gave-slice 𝓤 H A W 2 0 tt (plain (λ _. u32)), (goes-gave-slice 𝓤 H A W 2 1 tt (plain (λ _. T.the-row)), (goes-none 𝓤 H A W 2 (λ _. u32) yes (λ κs x f. refl), (goes-none 𝓤 H A W 2 (λ _. u32) yes (λ κs x f. refl), (goes-none 𝓤 H A W 2 (λ _. u32) yes (λ κs x f. refl), (goes-none 𝓤 H A W 2 (λ _. u32) yes (λ κs x f. refl), tt)))))) (f.clauses 𝓤 H A mem run)
     (WpFn 𝓤 H (𝓣 .C) (𝓣 .Λ) code.function) (WpFn-mono 𝓤 H (W .laws) 𝓣 code.function) (walks 𝓤 H A W mem run (𝓣 .C) (𝓣 .Λ) (fmOf 𝓤 H (W .laws) 𝓣) kc ki kf)
@@ -248,8 +248,8 @@ pub make-spec : {M : Type 1} → stated.statement M
 unfolding code.routine tablesOf
 make-spec 𝓤 H 𝓜 𝓖 𝓡 =
     entered 𝓤 H (tripleOf 𝓤 H (𝓖 .A) f.signature (f.spec 𝓤 H (𝓖 .A) (𝓜 .mem) (𝓡 .run)))
-    (tables 𝓤 H 𝓜 𝓡 code.env .C) (tables 𝓤 H 𝓜 𝓡 code.env .Λ) #index·make code.function (code.unfolded 𝓤 H 𝓜 𝓡)
+    (tables 𝓤 H 𝓜 𝓡 code.env .C) (tables 𝓤 H 𝓜 𝓡 code.env .Λ) #make·make code.function (code.unfolded 𝓤 H 𝓜 𝓡)
     (meets 𝓤 H (𝓖 .A) (givenOf 𝓤 H 𝓜 𝓖) (𝓜 .mem) (𝓡 .run) (tablesOf 𝓤 H 𝓜 (tables 𝓤 H 𝓜 𝓡 code.env))
-    (cited 𝓤 H (Core 𝓤 H (𝓖 .A) (𝓜 .mem) (𝓡 .run)) 𝓜 𝓡 code.env #index·make-beside make-beside-def.routine code.calls-index·make-beside (make-beside-thm.met 𝓤 H 𝓜 𝓖 𝓡))
+    (cited 𝓤 H (Core 𝓤 H (𝓖 .A) (𝓜 .mem) (𝓡 .run)) 𝓜 𝓡 code.env #make·make-beside make-beside-def.routine code.calls-make·make-beside (make-beside-thm.met 𝓤 H 𝓜 𝓖 𝓡))
     (cited 𝓤 H (Idle 𝓤 H (𝓖 .A) (𝓜 .mem) (𝓡 .run)) 𝓜 𝓡 code.env #process·idle-record idle-record-def.routine code.calls-process·idle-record (idle-record-thm.met 𝓤 H 𝓜 𝓖 𝓡))
-    (cited 𝓤 H (Fill 𝓤 H (𝓖 .A) (𝓜 .mem) (𝓡 .run)) 𝓜 𝓡 code.env #index·fill fill-def.routine code.calls-index·fill (fill-thm.met 𝓤 H 𝓜 𝓖 𝓡)))
+    (cited 𝓤 H (Fill 𝓤 H (𝓖 .A) (𝓜 .mem) (𝓡 .run)) 𝓜 𝓡 code.env #make·fill fill-def.routine code.calls-make·fill (fill-thm.met 𝓤 H 𝓜 𝓖 𝓡)))

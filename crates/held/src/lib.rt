@@ -1,6 +1,7 @@
-// The same calls over a row that is held by value, for programs: their callers need no proof about a lent row.
+// Make, start and step of crate `index` over a row that is held by value, for programs: their callers need no proof about a lent row.
 ghost use mathlib.Core.Path.{_≡_};
-ghost use Rattle.index.specs.Calls.{makeOut, makeCall, startOut, startCall, stepOut, stepCall};
+ghost use Rattle.make.specs.Make.{makeOut, makeCall};
+ghost use Rattle.index.specs.Calls.{startOut, startCall, stepOut, stepCall};
 use fresh::Made;
 use points::start::StartAnswer;
 use process::Process;
@@ -32,7 +33,7 @@ pub fn make_held(
     ensures { λ r. ⌜ makeOut (r .answer) (now (block .exit)) (r .row) ≡ makeCall (now (block .entry)) row k processes nodes records ⌝ }
 {
     let mut t = row;
-    let a = crate::make(block, &mut t, k, processes, nodes, records);
+    let a = index::make(block, &mut t, k, processes, nodes, records);
     HeldMade { row: t, answer: a }
 }
 
@@ -46,7 +47,7 @@ pub fn start_held(
     ensures { λ r. ⌜ startOut (r .answer) (r .row) ≡ startCall (now (block .entry)) row process operation key ⌝ }
 {
     let mut t = row;
-    let a = crate::start(block, &mut t, process, operation, key);
+    let a = index::start(block, &mut t, process, operation, key);
     HeldStart { row: t, answer: a }
 }
 
@@ -54,6 +55,6 @@ pub fn step_held(block: &mut [u32], row: [Process; 32], process: u32) -> HeldSte
     ensures { λ r. ⌜ stepOut (r .answer) (now (block .exit)) (r .row) ≡ stepCall (now (block .entry)) row process ⌝ }
 {
     let mut t = row;
-    let a = crate::step(block, &mut t, process);
+    let a = index::step(block, &mut t, process);
     HeldStep { row: t, answer: a }
 }

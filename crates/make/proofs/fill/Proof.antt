@@ -48,12 +48,12 @@ use Rattle.process.specs.Process.{idle}
 use Rattle.process.specs.declared.Process.{Process}
 use Rattle.process.proofs.Process as T
 use Rattle.process.proofs.Process.Laws as T′
-use Rattle.index.proofs.Rows.{size, mvals, mach, fits-in, upto, length-upto, upto-more, upto-all}
-use Rattle.index.proofs.fill.Key.{name as #index·fill}
-use Rattle.index.proofs.fill as f
-use Rattle.index.proofs.fill.Statement as stated
-use Rattle.index.proofs.fill.Code as code
-use Rattle.index.proofs.fill.Code.Mir as body
+use Rattle.make.proofs.Rows.{size, mvals, mach, fits-in, upto, length-upto, upto-more, upto-all}
+use Rattle.make.proofs.fill.Key.{name as #make·fill}
+use Rattle.make.proofs.fill as f
+use Rattle.make.proofs.fill.Statement as stated
+use Rattle.make.proofs.fill.Code as code
+use Rattle.make.proofs.fill.Code.Mir as body
 
 within : (i c n : ℕ) → i < c → c ≤ n → i < n
 within i c n l m = omega (arith, l, m)
@@ -192,5 +192,5 @@ pub fill-spec : {M : Type 1} → stated.statement M
 unfolding code.routine tablesOf
 fill-spec 𝓤 H 𝓜 𝓖 𝓡 =
     entered 𝓤 H (tripleOf 𝓤 H (𝓖 .A) f.signature (f.spec 𝓤 H (𝓖 .A) (𝓜 .mem) (𝓡 .run)))
-    (tables 𝓤 H 𝓜 𝓡 code.env .C) (tables 𝓤 H 𝓜 𝓡 code.env .Λ) #index·fill code.function (code.unfolded 𝓤 H 𝓜 𝓡)
+    (tables 𝓤 H 𝓜 𝓡 code.env .C) (tables 𝓤 H 𝓜 𝓡 code.env .Λ) #make·fill code.function (code.unfolded 𝓤 H 𝓜 𝓡)
     (meets 𝓤 H (𝓖 .A) (givenOf 𝓤 H 𝓜 𝓖) (𝓜 .mem) (𝓡 .run) (tablesOf 𝓤 H 𝓜 (tables 𝓤 H 𝓜 𝓡 code.env)))

@@ -1,8 +1,8 @@
 -- The proof that `make_beside` keeps its contract.
 use borrow.Author.Needs.{needs}
-use Rattle.index.proofs.Called.{besides}
-use Rattle.index.proofs.make_beside.Statement.{statement}
-use Rattle.index.proofs.make_beside.Tie as tie
+use Rattle.make.proofs.Called.{besides}
+use Rattle.make.proofs.make_beside.Statement.{statement}
+use Rattle.make.proofs.make_beside.Tie as tie
 
 pub make-beside-spec : {M : Type 1} → statement M
 make-beside-spec =

@@ -48,21 +48,21 @@ use Rattle.process.proofs.Process.Laws as T′
 use Rattle.fresh.specs.declared.Made.{Made}
 use Rattle.fresh.proofs.Made as R
 use Rattle.fresh.proofs.Made.Laws as R′
-use Rattle.index.specs.Calls.{makeOut, makeCall}
-use Rattle.index.specs.declared.held.HeldMade.{HeldMade}
-use Rattle.index.proofs.held.HeldMade as S
-use Rattle.index.proofs.held.HeldMade.Laws as S′
-use Rattle.index.proofs.Rows.{mvals}
-use Rattle.index.proofs.Lent.{Cell, lends-array, array-back}
-use Rattle.index.proofs.ByValue.{held-length, Row, room-held, row-field}
-use Rattle.index.proofs.make as make
-use Rattle.index.proofs.make.Symbol as make-def
-use Rattle.index.proofs.make.Symbol.{name as #index·make}
-use Rattle.index.proofs.make.Met as make-thm
-use Rattle.index.proofs.held.make_held.Key.{name as #index·held·make-held}
-use Rattle.index.proofs.held.make_held as f
-use Rattle.index.proofs.held.make_held.Statement as stated
-use Rattle.index.proofs.held.make_held.Code as code
+use Rattle.make.specs.Make.{makeOut, makeCall}
+use Rattle.held.specs.declared.HeldMade.{HeldMade}
+use Rattle.held.proofs.HeldMade as S
+use Rattle.held.proofs.HeldMade.Laws as S′
+use Rattle.make.proofs.Rows.{mvals}
+use Rattle.held.proofs.Lent.{Cell, lends-array, array-back}
+use Rattle.held.proofs.ByValue.{held-length, Row, room-held, row-field}
+use Rattle.make.proofs.make as make
+use Rattle.make.proofs.make.Symbol as make-def
+use Rattle.make.proofs.make.Symbol.{name as #make·make}
+use Rattle.make.proofs.make.Met as make-thm
+use Rattle.held.proofs.make_held.Key.{name as #held·make-held}
+use Rattle.held.proofs.make_held as f
+use Rattle.held.proofs.make_held.Statement as stated
+use Rattle.held.proofs.make_held.Code as code
 
 abbrev stayed : Stays (f.ended .signature .params) (f.ended .kept)
 stayed = (gave-slice (0 ∷ []) tt (plain (λ _. u32)), (stay-none (λ _. Row) yes, (stay-none (λ _. u32) yes, (stay-none (λ _. u32) yes, (stay-none (λ _. u32) yes, (stay-none (λ _. u32) yes, tt))))))
@@ -128,7 +128,7 @@ module _ {M : Type 1} (𝓤 : URA M) (H : Heap 𝓤) (A : Atoms 𝓤) (W : Given
         -- [what the types own; block's token; ν's]
         nothing ! $ move ! (3 ∷ 0 ∷ []) $ join ! $ move ! (2 ∷ 0 ∷ []) $ join ! $ join ! $ frame ! $ done !
 
-  module _ (C : Calls 𝓤 H) (Λ : Loops 𝓤 H) (fm : FmC 𝓤 H (W .laws) C) (known : Triple 𝓤 (C #index·make) (Lent 𝓤 H A mem run)) where
+  module _ (C : Calls 𝓤 H) (Λ : Loops 𝓤 H) (fm : FmC 𝓤 H (W .laws) C) (known : Triple 𝓤 (C #make·make) (Lent 𝓤 H A mem run)) where
     walk : Room u32 (length ws) → Is Row xs (v ∷ []) → length xs ≡ held-length → k < 2 ^ 32 → p < 2 ^ 32 → nd < 2 ^ 32 → rc < 2 ^ 32 → ent 𝓤 (onEntry 𝓤 H A f.signature (κ₀, tt) (q₀, tt) a vals) (WpFn 𝓤 H C Λ code.function (v₀ ∷ v ∷ vint w32 k ∷ vint w32 p ∷ vint w32 nd ∷ vint w32 rc ∷ []) Post)
     walk room₀ g len gk gp gnd grc =
         qed W ((‵ (flft κ₀ q₀) ⊛ ‵ ftrue) ∷ ‵ (owns (MutSlice (named 0) κ₀ u32 ∷ Row ∷ u32 ∷ u32 ∷ u32 ∷ u32 ∷ []) a vals) ∷ []) ∵
@@ -195,11 +195,11 @@ module _ {M : Type 1} (𝓤 : URA M) (H : Heap 𝓤) (A : Atoms 𝓤) (W : Given
         keep ! (1 ∷ 3 ∷ 4 ∷ 6 ∷ []) $ by ! (exits (us .0) (us .1 .0) r made e m₀))))))))))))))))))))))))))
 
 module _ {M : Type 1} (𝓤 : URA M) (H : Heap 𝓤) (A : Atoms 𝓤) (W : Given 𝓤 H A) (mem : Memory → SProp 𝓤) (run : Routine → Fun 𝓤) where
-  walks : (C : Calls 𝓤 H) (Λ : Loops 𝓤 H) → FmC 𝓤 H (W .laws) C → Triple 𝓤 (C #index·make) (Lent 𝓤 H A mem run) → Walks 𝓤 H A f.ended stayed (WpFn 𝓤 H C Λ code.function) (f.clauses 𝓤 H A mem run)
+  walks : (C : Calls 𝓤 H) (Λ : Loops 𝓤 H) → FmC 𝓤 H (W .laws) C → Triple 𝓤 (C #make·make) (Lent 𝓤 H A mem run) → Walks 𝓤 H A f.ended stayed (WpFn 𝓤 H C Λ code.function) (f.clauses 𝓤 H A mem run)
   walks C Λ fm known = walked 𝓤 H A f.ended stayed (f.clauses 𝓤 H A mem run) (WpFn 𝓤 H C Λ code.function) (λ κs. (slice-vals, (array-vals mvals, (uint-vals w32, (uint-vals w32, (uint-vals w32, (uint-vals w32, tt))))))) (λ κs. (mut-slice-tells (named 0) (κs .0) u32, (array-tells T.the-row mvals (LL.tells T.the-type T′.the-laws) held-length, (uint-tells w32, (uint-tells w32, (uint-tells w32, (uint-tells w32, tt)))))))
       (λ κs qs bounds a g are. via 𝓤 _ (fst∗ 𝓤 _ (emp 𝓤)) (walk 𝓤 H A W mem run (κs .0) (qs .0) (a .0 .ptr .0) (a .0 .ptr .1) (a .0 .name) (a .0 .now) (a .1 .0) (a .1 .1 .0) (a .1 .1 .1 .0) (a .1 .1 .1 .1 .0) (a .1 .1 .1 .1 .1 .0) C Λ fm known (are .0 .0 .1) (are .1 .0) (are .1 .0 .1 .0 .1) (are .1 .1 .0 .1) (are .1 .1 .1 .0 .1) (are .1 .1 .1 .1 .0 .1) (are .1 .1 .1 .1 .1 .0 .1)))
 
-meets : {M : Type 1} (𝓤 : URA M) (H : Heap 𝓤) (A : Atoms 𝓤) → Given 𝓤 H A → (mem : Memory → SProp 𝓤) (run : Routine → Fun 𝓤) (𝓣 : Tables 𝓤 H) → Triple 𝓤 (𝓣 .C #index·make) (Lent 𝓤 H A mem run)
+meets : {M : Type 1} (𝓤 : URA M) (H : Heap 𝓤) (A : Atoms 𝓤) → Given 𝓤 H A → (mem : Memory → SProp 𝓤) (run : Routine → Fun 𝓤) (𝓣 : Tables 𝓤 H) → Triple 𝓤 (𝓣 .C #make·make) (Lent 𝓤 H A mem run)
     → Meets 𝓤 H A f.signature (WpFn 𝓤 H (𝓣 .C) (𝓣 .Λ) code.function) (f.spec 𝓤 H A mem run)
 meets 𝓤 H A W mem run 𝓣 known = walk-meets 𝓤 H A f.ended stayed W (goes-gave-slice 𝓤 H A W 1 0 tt (plain (λ _. u32)), (goes-none 𝓤 H A W 1 (λ _. Row) yes (λ κs x f. refl), (goes-none 𝓤 H A W 1 (λ _. u32) yes (λ κs x f. refl), (goes-none 𝓤 H A W 1 (λ _. u32) yes (λ κs x f. refl), (goes-none 𝓤 H A W 1 (λ _. u32) yes (λ κs x f. refl), (goes-none 𝓤 H A W 1 (λ _. u32) yes (λ κs x f. refl), tt)))))) (f.clauses 𝓤 H A mem run)
     (WpFn 𝓤 H (𝓣 .C) (𝓣 .Λ) code.function) (WpFn-mono 𝓤 H (W .laws) 𝓣 code.function) (walks 𝓤 H A W mem run (𝓣 .C) (𝓣 .Λ) (fmOf 𝓤 H (W .laws) 𝓣) known)
@@ -208,6 +208,6 @@ pub make-held-spec : {M : Type 1} → stated.statement M
 unfolding code.routine tablesOf
 make-held-spec 𝓤 H 𝓜 𝓖 𝓡 =
     entered 𝓤 H (tripleOf 𝓤 H (𝓖 .A) f.signature (f.spec 𝓤 H (𝓖 .A) (𝓜 .mem) (𝓡 .run)))
-    (tables 𝓤 H 𝓜 𝓡 code.env .C) (tables 𝓤 H 𝓜 𝓡 code.env .Λ) #index·held·make-held code.function (code.unfolded 𝓤 H 𝓜 𝓡)
+    (tables 𝓤 H 𝓜 𝓡 code.env .C) (tables 𝓤 H 𝓜 𝓡 code.env .Λ) #held·make-held code.function (code.unfolded 𝓤 H 𝓜 𝓡)
     (meets 𝓤 H (𝓖 .A) (givenOf 𝓤 H 𝓜 𝓖) (𝓜 .mem) (𝓡 .run) (tablesOf 𝓤 H 𝓜 (tables 𝓤 H 𝓜 𝓡 code.env))
-    (cited 𝓤 H (Lent 𝓤 H (𝓖 .A) (𝓜 .mem) (𝓡 .run)) 𝓜 𝓡 code.env #index·make make-def.routine code.calls-index·make (make-thm.met 𝓤 H 𝓜 𝓖 𝓡)))
+    (cited 𝓤 H (Lent 𝓤 H (𝓖 .A) (𝓜 .mem) (𝓡 .run)) 𝓜 𝓡 code.env #make·make make-def.routine code.calls-make·make (make-thm.met 𝓤 H 𝓜 𝓖 𝓡)))

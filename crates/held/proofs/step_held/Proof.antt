@@ -48,21 +48,21 @@ use Rattle.process.proofs.Process.Laws as T′
 use Rattle.process.specs.declared.StepAnswer.{StepAnswer}
 use Rattle.process.proofs.StepAnswer as R
 use Rattle.process.proofs.StepAnswer.Laws as R′
 use Rattle.index.specs.Calls.{stepOut, stepCall}
-use Rattle.index.specs.declared.held.HeldStep.{HeldStep}
-use Rattle.index.proofs.held.HeldStep as S
-use Rattle.index.proofs.held.HeldStep.Laws as S′
-use Rattle.index.proofs.Rows.{mvals}
-use Rattle.index.proofs.Lent.{Cell, lends-array, array-back}
-use Rattle.index.proofs.ByValue.{held-length, Row, room-held, row-field}
+use Rattle.held.specs.declared.HeldStep.{HeldStep}
+use Rattle.held.proofs.HeldStep as S
+use Rattle.held.proofs.HeldStep.Laws as S′
+use Rattle.make.proofs.Rows.{mvals}
+use Rattle.held.proofs.Lent.{Cell, lends-array, array-back}
+use Rattle.held.proofs.ByValue.{held-length, Row, room-held, row-field}
 use Rattle.index.proofs.step as step
 use Rattle.index.proofs.step.Symbol as step-def
 use Rattle.index.proofs.step.Symbol.{name as #index·step}
 use Rattle.index.proofs.step.Met as step-thm
-use Rattle.index.proofs.held.step_held.Key.{name as #index·held·step-held}
-use Rattle.index.proofs.held.step_held as f
-use Rattle.index.proofs.held.step_held.Statement as stated
-use Rattle.index.proofs.held.step_held.Code as code
+use Rattle.held.proofs.step_held.Key.{name as #held·step-held}
+use Rattle.held.proofs.step_held as f
+use Rattle.held.proofs.step_held.Statement as stated
+use Rattle.held.proofs.step_held.Code as code
 
 abbrev stayed : Stays (f.ended .signature .params) (f.ended .kept)
 stayed = (gave-slice (0 ∷ []) tt (plain (λ _. u32)), (stay-none (λ _. Row) yes, (stay-none (λ _. u32) yes, tt)))
@@ -208,6 +208,6 @@ pub step-held-spec : {M : Type 1} → stated.statement M
 unfolding code.routine tablesOf
 step-held-spec 𝓤 H 𝓜 𝓖 𝓡 =
     entered 𝓤 H (tripleOf 𝓤 H (𝓖 .A) f.signature (f.spec 𝓤 H (𝓖 .A) (𝓜 .mem) (𝓡 .run)))
-    (tables 𝓤 H 𝓜 𝓡 code.env .C) (tables 𝓤 H 𝓜 𝓡 code.env .Λ) #index·held·step-held code.function (code.unfolded 𝓤 H 𝓜 𝓡)
+    (tables 𝓤 H 𝓜 𝓡 code.env .C) (tables 𝓤 H 𝓜 𝓡 code.env .Λ) #held·step-held code.function (code.unfolded 𝓤 H 𝓜 𝓡)
     (meets 𝓤 H (𝓖 .A) (givenOf 𝓤 H 𝓜 𝓖) (𝓜 .mem) (𝓡 .run) (tablesOf 𝓤 H 𝓜 (tables 𝓤 H 𝓜 𝓡 code.env))
     (cited 𝓤 H (Lent 𝓤 H (𝓖 .A) (𝓜 .mem) (𝓡 .run)) 𝓜 𝓡 code.env #index·step step-def.routine code.calls-index·step (step-thm.met 𝓤 H 𝓜 𝓖 𝓡)))

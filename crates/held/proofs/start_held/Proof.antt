@@ -48,21 +48,21 @@ use Rattle.process.proofs.Process.Laws as T′
 use Rattle.points.specs.declared.start.StartAnswer.{StartAnswer}
 use Rattle.points.proofs.start.StartAnswer as R
 use Rattle.points.proofs.start.StartAnswer.Laws as R′
 use Rattle.index.specs.Calls.{startOut, startCall}
-use Rattle.index.specs.declared.held.HeldStart.{HeldStart}
-use Rattle.index.proofs.held.HeldStart as S
-use Rattle.index.proofs.held.HeldStart.Laws as S′
-use Rattle.index.proofs.Rows.{mvals}
-use Rattle.index.proofs.Lent.{Cell, lends-array, array-back}
-use Rattle.index.proofs.ByValue.{held-length, Row, room-held, row-field}
+use Rattle.held.specs.declared.HeldStart.{HeldStart}
+use Rattle.held.proofs.HeldStart as S
+use Rattle.held.proofs.HeldStart.Laws as S′
+use Rattle.make.proofs.Rows.{mvals}
+use Rattle.held.proofs.Lent.{Cell, lends-array, array-back}
+use Rattle.held.proofs.ByValue.{held-length, Row, room-held, row-field}
 use Rattle.index.proofs.start as start
 use Rattle.index.proofs.start.Symbol as start-def
 use Rattle.index.proofs.start.Symbol.{name as #index·start}
 use Rattle.index.proofs.start.Met as start-thm
-use Rattle.index.proofs.held.start_held.Key.{name as #index·held·start-held}
-use Rattle.index.proofs.held.start_held as f
-use Rattle.index.proofs.held.start_held.Statement as stated
-use Rattle.index.proofs.held.start_held.Code as code
+use Rattle.held.proofs.start_held.Key.{name as #held·start-held}
+use Rattle.held.proofs.start_held as f
+use Rattle.held.proofs.start_held.Statement as stated
+use Rattle.held.proofs.start_held.Code as code
 
 abbrev stayed : Stays (f.ended .signature .params) (f.ended .kept)
 stayed = (stay-none-slice (0 ∷ []) tt (plain (λ _. u32)) yes, (stay-none (λ _. Row) yes, (stay-none (λ _. u32) yes, (stay-none (λ _. u32) yes, (stay-none (λ _. u32) yes, tt)))))
@@ -206,6 +206,6 @@ pub start-held-spec : {M : Type 1} → stated.statement M
 unfolding code.routine tablesOf
 start-held-spec 𝓤 H 𝓜 𝓖 𝓡 =
     entered 𝓤 H (tripleOf 𝓤 H (𝓖 .A) f.signature (f.spec 𝓤 H (𝓖 .A) (𝓜 .mem) (𝓡 .run)))
-    (tables 𝓤 H 𝓜 𝓡 code.env .C) (tables 𝓤 H 𝓜 𝓡 code.env .Λ) #index·held·start-held code.function (code.unfolded 𝓤 H 𝓜 𝓡)
+    (tables 𝓤 H 𝓜 𝓡 code.env .C) (tables 𝓤 H 𝓜 𝓡 code.env .Λ) #held·start-held code.function (code.unfolded 𝓤 H 𝓜 𝓡)
     (meets 𝓤 H (𝓖 .A) (givenOf 𝓤 H 𝓜 𝓖) (𝓜 .mem) (𝓡 .run) (tablesOf 𝓤 H 𝓜 (tables 𝓤 H 𝓜 𝓡 code.env))
     (cited 𝓤 H (Lent 𝓤 H (𝓖 .A) (𝓜 .mem) (𝓡 .run)) 𝓜 𝓡 code.env #index·start start-def.routine code.calls-index·start (start-thm.met 𝓤 H 𝓜 𝓖 𝓡)))

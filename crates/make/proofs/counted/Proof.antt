@@ -1,8 +1,8 @@
 -- The proof that `counted` keeps its contract.
 use borrow.Author.Needs.{needs}
-use Rattle.index.proofs.Called.{counting}
-use Rattle.index.proofs.counted.Statement.{statement}
-use Rattle.index.proofs.counted.Tie as tie
+use Rattle.make.proofs.Called.{counting}
+use Rattle.make.proofs.counted.Statement.{statement}
+use Rattle.make.proofs.counted.Tie as tie
 
 pub counted-spec : {M : Type 1} → statement M
 counted-spec =

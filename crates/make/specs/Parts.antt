@@ -7,8 +7,8 @@ use Rattle.tables.specs.Layout.{overFront}
 use Rattle.fresh.specs.Fresh.{freshHeader, freshBlock}
 use Rattle.fresh.specs.declared.Made.{Made}
 use Rattle.fresh.specs.declared.Made.the-variants as made
-use Rattle.index.specs.Calls.{makeReasons}
-use Rattle.index.specs.declared.Making.{Making}
+use Rattle.make.specs.Make.{makeReasons}
+use Rattle.make.specs.declared.Making.{Making}
 
 -- the block is done, and so many records are still to be made idle: none if it is refused
 pub record MakingOut : Type 0 where
