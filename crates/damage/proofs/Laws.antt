@@ -9,11 +9,11 @@ use lib.Pow.{pow-lt, pow-mono}
 use borrow.Author.Tests.{lt-ltb, le-ltb, ne-eqb}
 use Rattle.tables.specs.Choice.{pick, both, within}
 use Rattle.tables.specs.Layout.{depthOf, recordWord, pField, thirdField, expectedField}
-use Rattle.tables.specs.Pending.{pendingOf, pendingGood}
-use Rattle.tables.specs.Node.{kinOf, belowOf, isInternal, isLeaf, isNode}
+use Rattle.nodes.specs.Pending.{pendingOf, pendingGood}
+use Rattle.nodes.specs.Node.{kinOf, belowOf, isInternal, isLeaf, isNode}
 use Rattle.tables.specs.declared.header.Header.{Header}
-use Rattle.tables.specs.declared.node.Child.{Child}
-use Rattle.tables.specs.declared.pending.Pending.{Pending}
+use Rattle.nodes.specs.declared.node.Child.{Child}
+use Rattle.nodes.specs.declared.pending.Pending.{Pending}
 use Rattle.tables.proofs.Picks.{both-of}
 use Rattle.process.specs.Process.{isCleanOf}
 use Rattle.process.specs.declared.Process.{Process}

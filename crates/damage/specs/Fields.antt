@@ -6,8 +6,8 @@ use lib.Dec.{ltb, leb, eqb}
 use Rattle.tables.specs.Choice.{pick, both, either, within}
 use Rattle.tables.specs.Numbers.{infinity}
 use Rattle.tables.specs.Layout.{depthOf}
-use Rattle.tables.specs.Pending.{pendingGood}
-use Rattle.tables.specs.Node.{kinOf, isNode, isInternal, isLeaf}
+use Rattle.nodes.specs.Pending.{pendingGood}
+use Rattle.nodes.specs.Node.{kinOf, isNode, isInternal, isLeaf}
 use Rattle.tables.specs.declared.header.Header.{Header}
 use Rattle.process.specs.declared.Process.{Process}
 

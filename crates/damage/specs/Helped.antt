@@ -6,8 +6,8 @@ use lib.Dec.{ltb, leb, eqb}
 use Rattle.tables.specs.Choice.{pick, both, within}
 use Rattle.tables.specs.Numbers.{infinity}
 use Rattle.tables.specs.Layout.{recordWord, lField, pField, thirdField, expectedField, processField, operationField, keyField}
-use Rattle.tables.specs.Pending.{pendingOf, pendingGood, recordOfKind, replaceKind, pruneKind}
-use Rattle.tables.specs.Node.{kinOf, belowOf, isInternal, isLeaf, isNode}
+use Rattle.nodes.specs.Pending.{pendingOf, pendingGood, recordOfKind, replaceKind, pruneKind}
+use Rattle.nodes.specs.Node.{kinOf, belowOf, isInternal, isLeaf, isNode}
 use Rattle.tables.specs.declared.header.Header.{Header}
 use Rattle.process.specs.Process.{isCleanOf}
 use Rattle.process.specs.declared.Process.{Process}

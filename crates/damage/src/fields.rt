@@ -5,15 +5,15 @@ ghost use mathlib.Core.Bool.{not};
 ghost use lib.Dec.{ltb, leb, eqb};
 ghost use Rattle.tables.specs.Choice.{within};
 ghost use Rattle.tables.specs.Layout.{depthOf};
-ghost use Rattle.tables.specs.Node.{kinOf, isInternal, isLeaf, isNode};
+ghost use Rattle.nodes.specs.Node.{kinOf, isInternal, isLeaf, isNode};
 ghost use Rattle.damage.specs.Fields.{zeroOr, pointOfInsert, pointGood, numbersGood, nodesGood, recordsGood, usesIndex, given as givenOf, usesGood, processGood};
+use nodes::node;
+use nodes::pending;
 use process::Process;
 use tables::choice;
 use tables::header;
 use tables::header::Header;
-use tables::node;
 use tables::numbers;
-use tables::pending;
 
 fn zero_or(x: u32, t: bool) -> bool
     ensures { λ r. ⌜ r ≡ zeroOr x t ⌝ }

@@ -1,13 +1,13 @@
 // "A step checks .. from 6 on, the record helped": a replace at 6 to 8, a prune at 9 to 14.
 ghost use mathlib.Core.Path.{_≡_};
 ghost use Rattle.damage.specs.Helped.{ownerGood, thirdGood, placesGood, expectedGood, recordGood, kindAt, helpedGood};
+use nodes::node;
+use nodes::pending;
 use process::Process;
 use tables::choice;
 use tables::header;
 use tables::header::Header;
-use tables::node;
 use tables::numbers;
-use tables::pending;
 
 fn owner_good(block: &[u32], h: Header, number: u32) -> bool
     ensures { λ r. ⌜ r ≡ ownerGood (now (block .entry)) h number ⌝ }

@@ -14,9 +14,9 @@ use Rattle.tables.specs.Numbers.{nodeWords, recordWords, keyRoom}
 use Rattle.tables.specs.Layout.{blockWords, nodeAt, nodeWord, pendingWord, recordWord, pendingPlace}
 use Rattle.tables.specs.Header.{headerOf, headerFrom}
 use Rattle.tables.specs.Place.{Place, inHeader, inNode, inRecord, placeAt, Inside}
-use Rattle.tables.specs.Node.{leafImage, internalImage, withNode}
-use Rattle.tables.specs.Keys.{keyArray, sproutLeaf}
-use Rattle.tables.specs.Pending.{replaceKind}
+use Rattle.nodes.specs.Node.{leafImage, internalImage, withNode}
+use Rattle.nodes.specs.Keys.{keyArray, sproutLeaf}
+use Rattle.nodes.specs.Pending.{replaceKind}
 use Rattle.tables.specs.declared.header.Header.{Header}
 use Rattle.tables.proofs.Picks.{both-1, both-2, pick-true}
 use Rattle.tables.proofs.Lists.{moved, length-listed, getD-listed₀}

@@ -13,8 +13,8 @@ use lib.ListN.{length, getD, set, List·getD-eq-default}
 use lib.Seq.{sets, ext-getD}
 use Rattle.tables.specs.Choice.{pick, both, listed}
 use Rattle.tables.specs.Layout.{recordAt, nodeAt, pendingPlace}
-use Rattle.tables.specs.Node.{leafImage, internalImage, withNode}
-use Rattle.tables.specs.Keys.{keyArray, sproutOf}
+use Rattle.nodes.specs.Node.{leafImage, internalImage, withNode}
+use Rattle.nodes.specs.Keys.{keyArray, sproutOf}
 use Rattle.tables.specs.declared.header.Header.{Header}
 use Rattle.tables.proofs.Picks.{both-2, pick-true}
 use Rattle.tables.proofs.Lists.{left-over, get-past, length-listed, getD-listed₀, sets-done}

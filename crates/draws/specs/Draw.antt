@@ -7,9 +7,9 @@ use lib.ListN.{getD, set, drop}
 use lib.Seq.{sets}
 use Rattle.tables.specs.Choice.{pick, both, listed}
 use Rattle.tables.specs.Layout.{nodeAt, recordAt, pendingPlace}
-use Rattle.tables.specs.Pending.{replaceKind, pruneKind}
-use Rattle.tables.specs.Node.{leafImage, internalImage, withNode}
-use Rattle.tables.specs.Keys.{keysOf, putIn, takenOut, keyArray, sproutOf}
+use Rattle.nodes.specs.Pending.{replaceKind, pruneKind}
+use Rattle.nodes.specs.Node.{leafImage, internalImage, withNode}
+use Rattle.nodes.specs.Keys.{keysOf, putIn, takenOut, keyArray, sproutOf}
 use Rattle.tables.specs.declared.header.Header.{Header}
 use Rattle.draws.specs.declared.Job.{Job}
 

@@ -5,14 +5,14 @@ ghost use mathlib.Core.List.{[]};
 ghost use lib.ListN.{getD, set};
 ghost use lib.Seq.{sets};
 ghost use Rattle.tables.specs.Layout.{recordAt};
-ghost use Rattle.tables.specs.Keys.{keyArray};
+ghost use Rattle.nodes.specs.Keys.{keyArray};
 ghost use Rattle.draws.specs.Draw.{putsIn, roomFor, sprouts as sproutsOf, neededNodes, newKeys, newCount, leafDrawn, largest as largestOf, leavesFrom, sproutLeaves, sproutDrawn, nodesDrawn, newRecord, recordDrawn, committed, drawOut, replaceOf, pruneOf};
+use nodes::keys;
+use nodes::node;
+use nodes::pending;
 use tables::choice;
 use tables::header;
 use tables::header::Header;
-use tables::keys;
-use tables::node;
-use tables::pending;
 use tables::words;
 
 // What a new record says of its maker and its place: the process, its operation and key, p and l.

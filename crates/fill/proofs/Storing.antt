@@ -7,14 +7,14 @@ use lib.ListN.{length, set, length-append}
 use lib.Seq.{sets, length-sets}
 use Rattle.tables.specs.Choice.{listed}
 use Rattle.tables.specs.Layout.{keyWord}
-use Rattle.tables.specs.Keys.{keysOf}
-use Rattle.tables.specs.Node.{kinOf, childOf}
+use Rattle.nodes.specs.Keys.{keysOf}
+use Rattle.nodes.specs.Node.{kinOf, childOf}
 use Rattle.tables.specs.declared.header.Header.{Header}
-use Rattle.tables.specs.declared.node.Kin.{Kin}
-use Rattle.tables.specs.declared.node.Kin.the-variants.{Leaf, Internal}
-use Rattle.tables.specs.declared.node.Child.{Child}
-use Rattle.tables.specs.declared.node.Child.the-variants.{Node, Damaged}
-use Rattle.tables.proofs.Keyed.{keys-length}
+use Rattle.nodes.specs.declared.node.Kin.{Kin}
+use Rattle.nodes.specs.declared.node.Kin.the-variants.{Leaf, Internal}
+use Rattle.nodes.specs.declared.node.Child.{Child}
+use Rattle.nodes.specs.declared.node.Child.the-variants.{Node, Damaged}
+use Rattle.nodes.proofs.Keyed.{keys-length}
 use Rattle.meter.specs.Walk.{Walk, begin, leafMet, metFrom, walked}
 use Rattle.meter.specs.Measure.{Roomy}
 use Rattle.meter.proofs.Walks.{after, children, met-leaf, met-internal, met-damaged, met-none, child-more, child-none}

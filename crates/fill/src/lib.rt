@@ -3,15 +3,15 @@
 ghost use mathlib.Core.Path.{_≡_};
 ghost use Prim.Native.Nat.{_-_, _<_};
 ghost use lib.Seq.{sets};
-ghost use Rattle.tables.specs.Keys.{keysOf};
+ghost use Rattle.nodes.specs.Keys.{keysOf};
 ghost use Rattle.meter.specs.Walk.{begin, leafMet, metFrom, walked};
 ghost use Rattle.meter.specs.Measure.{Roomy};
 ghost use Rattle.fill.specs.Fill.{Filled, spentFilling};
+use nodes::node;
+use nodes::node::Child;
+use nodes::node::Kin;
 use tables::header;
 use tables::header::Header;
-use tables::node;
-use tables::node::Child;
-use tables::node::Kin;
 use tables::words;
 
 // Nodes still allowed, and where the next key goes.

@@ -9,12 +9,12 @@ use borrow.Author.Tests.{lt-ltb, le-ltb, eq-eqb, ne-eqb}
 use Rattle.tables.specs.Choice.{pick, both}
 use Rattle.tables.specs.Refusal.{refusal}
 use Rattle.tables.specs.Layout.{nodeAt, childWord, pendingWord, childPlace, pendingPlace}
-use Rattle.tables.specs.Pending.{pendingOf, pendingGood}
-use Rattle.tables.specs.Node.{belowOf, isNode}
+use Rattle.nodes.specs.Pending.{pendingOf, pendingGood}
+use Rattle.nodes.specs.Node.{belowOf, isNode}
 use Rattle.tables.specs.declared.header.Header.{Header}
-use Rattle.tables.specs.declared.node.Kin.{Kin}
-use Rattle.tables.specs.declared.node.Child.{Child}
-use Rattle.tables.specs.declared.node.Child.the-variants.{Node, Damaged}
+use Rattle.nodes.specs.declared.node.Kin.{Kin}
+use Rattle.nodes.specs.declared.node.Child.{Child}
+use Rattle.nodes.specs.declared.node.Child.the-variants.{Node, Damaged}
 use Rattle.process.specs.Process.{withPoint, withIndex}
 use Rattle.process.specs.Answer.{goingOn, refusedAs}
 use Rattle.process.specs.declared.Process.{Process}

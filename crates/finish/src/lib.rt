@@ -5,19 +5,19 @@ ghost use mathlib.Core.Bool.{true};
 ghost use lib.Dec.{eqb};
 ghost use lib.ListN.{set};
 ghost use Rattle.tables.specs.Choice.{pick, both};
-ghost use Rattle.tables.specs.Pending.{pendingOf, pendingGood};
+ghost use Rattle.nodes.specs.Pending.{pendingOf, pendingGood};
 ghost use Rattle.process.specs.Answer.{goingOn};
 ghost use Rattle.help.specs.Touch.{out, rowDone};
 ghost use Rattle.help.specs.Help.{topOf, helpEnded, topGood};
 ghost use Rattle.finish.specs.Rows.{lookedFor, lookRow, hangRow, unflagRow, row6, row7, row8, row12, row13, row14};
+use nodes::node;
+use nodes::node::Child;
+use nodes::pending;
 use process::Process;
 use process::Stepped;
 use tables::choice;
 use tables::header;
 use tables::header::Header;
-use tables::node;
-use tables::node::Child;
-use tables::pending;
 use tables::words;
 
 fn looked_for(h: Header, q: Process, seen: u32, target: u32, found: u32, missed: u32) -> Process

@@ -5,10 +5,10 @@ use mathlib.Core.List.{List}
 use lib.Dec.{eqb}
 use Rattle.tables.specs.Choice.{pick, both}
 use Rattle.tables.specs.Refusal.{refusal}
-use Rattle.tables.specs.Pending.{wordOf, pendingOf, pendingGood}
+use Rattle.nodes.specs.Pending.{wordOf, pendingOf, pendingGood}
 use Rattle.tables.specs.declared.header.Header.{Header}
-use Rattle.tables.specs.declared.node.Kin.{Kin}
-use Rattle.tables.specs.declared.node.Kin.the-variants.{Leaf, Internal}
+use Rattle.nodes.specs.declared.node.Kin.{Kin}
+use Rattle.nodes.specs.declared.node.Kin.the-variants.{Leaf, Internal}
 use Rattle.process.specs.Process.{withOwn, toSix, toNine}
 use Rattle.process.specs.Answer.{answer, goingOn, endingOf, refusedAs}
 use Rattle.process.specs.declared.Process.{Process}

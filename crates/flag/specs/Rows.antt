@@ -6,12 +6,12 @@ use lib.Dec.{ltb, eqb}
 use Rattle.tables.specs.Choice.{pick, both, either}
 use Rattle.tables.specs.Refusal.{refusal}
 use Rattle.tables.specs.Layout.{tagWord}
-use Rattle.tables.specs.Pending.{wordOf, pendingOf}
-use Rattle.tables.specs.Node.{kinOf, isNode}
-use Rattle.tables.specs.Keys.{keysOf, rises, holds}
+use Rattle.nodes.specs.Pending.{wordOf, pendingOf}
+use Rattle.nodes.specs.Node.{kinOf, isNode}
+use Rattle.nodes.specs.Keys.{keysOf, rises, holds}
 use Rattle.tables.specs.declared.header.Header.{Header}
-use Rattle.tables.specs.declared.node.Kin.{Kin}
-use Rattle.tables.specs.declared.node.Kin.the-variants.{Leaf, Internal}
+use Rattle.nodes.specs.declared.node.Kin.{Kin}
+use Rattle.nodes.specs.declared.node.Kin.the-variants.{Leaf, Internal}
 use Rattle.process.specs.Process.{withOwn, toSix, toNine}
 use Rattle.process.specs.Answer.{answer, goingOn, endingOf, refusedAs}
 use Rattle.process.specs.declared.Process.{Process}

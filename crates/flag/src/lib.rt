@@ -2,22 +2,22 @@
 // No public function asks anything of its caller.
 ghost use mathlib.Core.Path.{_≡_};
 ghost use Prim.Native.Nat.{_<_};
-ghost use Rattle.tables.specs.Pending.{wordOf};
+ghost use Rattle.nodes.specs.Pending.{wordOf};
 ghost use Rattle.help.specs.Touch.{out, rowDone};
 ghost use Rattle.flag.specs.Parts.{seenHelped, drawnReplace, drawnPrune, flaggedP, flaggedLeaf, flaggedGp};
 ghost use Rattle.flag.specs.Rows.{heldGood, leafGood4, jobOf, row4, pruneFlagged};
 use draws::Job;
+use nodes::keys;
+use nodes::node;
+use nodes::node::Child;
+use nodes::node::Kin;
+use nodes::pending;
 use process::Answer;
 use process::Process;
 use process::Stepped;
 use tables::choice;
 use tables::header;
 use tables::header::Header;
-use tables::keys;
-use tables::node;
-use tables::node::Child;
-use tables::node::Kin;
-use tables::pending;
 
 fn job_of(n: u32, q: Process) -> Job
     ensures { λ r. ⌜ r ≡ jobOf n q ⌝ }

@@ -13,7 +13,7 @@ use Rattle.tables.specs.Choice.{pick, none, nor}
 use Rattle.tables.specs.Refusal.{refusal}
 use Rattle.tables.specs.Numbers.{kStored, freshNodes, infinity, numbersGood, nodeWords, keyRoom}
 use Rattle.tables.specs.Layout.{blockWords, nodeAt, overFront}
-use Rattle.tables.specs.Node.{imageWord, internalImage, withNode}
+use Rattle.nodes.specs.Node.{imageWord, internalImage, withNode}
 use Rattle.fresh.specs.Fresh.{freshHeader, headerImage, rootImage, dummyImage, freshBlock, makingReasons, makeOut, makeOf, writtenFresh}
 use Rattle.tables.specs.Header.{headerFrom}
 use Rattle.tables.specs.declared.header.Header.{Header}

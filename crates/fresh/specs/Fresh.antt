@@ -9,7 +9,7 @@ use Rattle.tables.specs.Choice.{Reason, reason, decide}
 use Rattle.tables.specs.Numbers.{kStored, freshNodes, headerWords, nodeWords, infinity, keyRoom, numbersGood}
 use Rattle.tables.specs.Refusal.{refusal}
 use Rattle.tables.specs.Layout.{blockWords, overFront}
-use Rattle.tables.specs.Node.{internalImage, withNode}
+use Rattle.nodes.specs.Node.{internalImage, withNode}
 use Rattle.tables.specs.declared.header.Header.{Header}
 use Rattle.fresh.specs.declared.Made.{Made}
 use Rattle.fresh.specs.declared.Made.the-variants.{Done, Refused}

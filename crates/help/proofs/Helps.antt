@@ -9,12 +9,12 @@ use lib.ListN.{set}
 use borrow.Author.Tests.{eq-eqb, ne-eqb}
 use Rattle.tables.specs.Choice.{pick, both}
 use Rattle.tables.specs.Layout.{nodeAt, stackWord, pendingPlace}
-use Rattle.tables.specs.Pending.{pendingOf, pendingGood}
+use Rattle.nodes.specs.Pending.{pendingOf, pendingGood}
 use Rattle.tables.specs.declared.header.Header.{Header}
-use Rattle.tables.specs.declared.node.Kin.{Kin}
-use Rattle.tables.specs.declared.node.Kin.the-variants.{Leaf}
-use Rattle.tables.specs.declared.pending.Pending.{Pending}
-use Rattle.tables.specs.declared.pending.Pending.the-variants.{Clean, Replace, Prune, Mark}
+use Rattle.nodes.specs.declared.node.Kin.{Kin}
+use Rattle.nodes.specs.declared.node.Kin.the-variants.{Leaf}
+use Rattle.nodes.specs.declared.pending.Pending.{Pending}
+use Rattle.nodes.specs.declared.pending.Pending.the-variants.{Clean, Replace, Prune, Mark}
 use Rattle.process.specs.Process.{restartedOf, toSix, toNine, toTen, toEleven}
 use Rattle.process.specs.Answer.{goingOn, endingOf}
 use Rattle.process.specs.declared.Process.{Process}

@@ -5,10 +5,10 @@ use mathlib.Core.List.{List}
 use lib.Dec.{eqb}
 use Rattle.tables.specs.Choice.{pick, both}
 use Rattle.tables.specs.Layout.{recordWord, stackWord, lField, pField, thirdField, expectedField}
-use Rattle.tables.specs.Pending.{recordOfKind, pruneKind}
+use Rattle.nodes.specs.Pending.{recordOfKind, pruneKind}
 use Rattle.tables.specs.declared.header.Header.{Header}
-use Rattle.tables.specs.declared.pending.Pending.{Pending}
-use Rattle.tables.specs.declared.pending.Pending.the-variants.{Clean, Replace, Prune, Mark}
+use Rattle.nodes.specs.declared.pending.Pending.{Pending}
+use Rattle.nodes.specs.declared.pending.Pending.the-variants.{Clean, Replace, Prune, Mark}
 use Rattle.process.specs.Process.{restartedOf, toSix, toNine, toTen, toEleven}
 use Rattle.process.specs.Answer.{answer, goingOn, endingOf}
 use Rattle.process.specs.declared.Process.{Process}

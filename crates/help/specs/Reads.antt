@@ -4,11 +4,11 @@ use mathlib.Core.Bool.{Bool, true, not}
 use mathlib.Core.List.{List}
 use lib.Dec.{eqb}
 use Rattle.tables.specs.Layout.{tagWord, childPlace, pendingPlace}
-use Rattle.tables.specs.Pending.{pendingOf, pendingGood}
-use Rattle.tables.specs.Node.{kinOfTag, belowOf, isNode}
+use Rattle.nodes.specs.Pending.{pendingOf, pendingGood}
+use Rattle.nodes.specs.Node.{kinOfTag, belowOf, isNode}
 use Rattle.tables.specs.declared.header.Header.{Header}
-use Rattle.tables.specs.declared.node.Kin.{Kin}
-use Rattle.tables.specs.declared.node.Kin.the-variants.{Leaf, Internal}
+use Rattle.nodes.specs.declared.node.Kin.{Kin}
+use Rattle.nodes.specs.declared.node.Kin.the-variants.{Leaf, Internal}
 use Rattle.process.specs.declared.Process.{Process}
 use Rattle.help.specs.Touch.{Touch, reads, swaps, seenBy}
 

@@ -7,21 +7,21 @@ ghost use lib.ListN.{set};
 ghost use Rattle.tables.specs.Choice.{pick};
 ghost use Rattle.tables.specs.Layout.{nodeAt, pendingPlace};
 ghost use Rattle.tables.specs.Refusal.{refusal};
-ghost use Rattle.tables.specs.Pending.{pendingOf, pendingGood};
+ghost use Rattle.nodes.specs.Pending.{pendingOf, pendingGood};
 ghost use Rattle.process.specs.Answer.{refusedAs};
 ghost use Rattle.help.specs.Help.{helpedL, helpedP, helpedThird, topOf, helpEnded, topGood, helpGood};
 ghost use Rattle.help.specs.Help.{helping as helpingOf};
 ghost use Rattle.help.specs.Reads.{nonEmpty};
+use nodes::node::Kin;
+use nodes::pending;
+use nodes::pending::Pending;
 use process::Answer;
 use process::Process;
 use process::Stepped;
 use tables::choice;
 use tables::header;
 use tables::header::Header;
-use tables::node::Kin;
 use tables::numbers::Refusal;
-use tables::pending;
-use tables::pending::Pending;
 use tables::words;
 
 pub fn damaged(q: Process) -> Stepped

@@ -8,7 +8,7 @@ use native.Mathlib.Omega.{arith}
 use lib.ListN.{length, getD}
 use Rattle.tables.specs.Numbers.{infinity}
 use Rattle.tables.specs.Choice.{listed}
-use Rattle.tables.specs.Keys.{putIn, takenOut}
+use Rattle.nodes.specs.Keys.{putIn, takenOut}
 use Rattle.tables.proofs.Lists.{length-listed}
 use Rattle.history.specs.View.{View, In, route, keys}
 use Rattle.history.specs.Shared.{Desc}

@@ -3,7 +3,7 @@ use mathlib.Core.Path.{_≡_, refl, sym, _∙_}
 use Prim.Native.Nat.{ℕ, _+_, _*_, _≤_, _<_}
 use native.Mathlib.Omega.{arith}
 use Rattle.tables.specs.Numbers.{infinity}
-use Rattle.tables.specs.Keys.{putIn, takenOut}
+use Rattle.nodes.specs.Keys.{putIn, takenOut}
 use Rattle.history.specs.View.{View, In, keys}
 use Rattle.history.specs.Shared.{Shared}
 use Rattle.history.specs.Change.{SwapPend, NewRecord, NewLeaf, Sprout, Drawn, put-leaf, out-leaf, sprout, replace-words, prune-words}

@@ -8,8 +8,8 @@ use native.Mathlib.Omega.{arith}
 use lib.Dec.{eqb}
 use lib.ListN.{length}
 use Rattle.tables.specs.Numbers.{infinity}
-use Rattle.tables.specs.Keys.{putIn, takenOut}
-use Rattle.tables.proofs.Keyed.{first-in}
+use Rattle.nodes.specs.Keys.{putIn, takenOut}
+use Rattle.nodes.proofs.Keyed.{first-in}
 use Rattle.history.specs.View.{View, In, route, keys, On, Reach, by, Ordered}
 use Rattle.history.specs.Shared.{Desc, Shared}
 use Rattle.history.specs.Change.{rank, replace-words, prune-words, SwapPend, NewLeaf, Drawn, put-leaf, out-leaf, sprout, DrawReplace}

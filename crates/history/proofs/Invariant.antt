@@ -7,7 +7,7 @@ use native.Mathlib.Decide.{ℕ-discrete, decLt}
 use lib.ListN.{getD}
 use Rattle.tables.specs.Numbers.{infinity}
 use Rattle.tables.specs.Choice.{listed}
-use Rattle.tables.specs.Keys.{putIn, takenOut}
+use Rattle.nodes.specs.Keys.{putIn, takenOut}
 use Rattle.history.specs.View.{View, In, route, keys, On, Reach, Ordered}
 use Rattle.history.specs.Keys.{Rises}
 use Rattle.history.specs.Shared.{Desc, Shared, NoChild, Pair}

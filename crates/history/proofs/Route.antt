@@ -8,7 +8,7 @@ use native.Mathlib.Decide.{decLt}
 use native.Mathlib.Omega.{arith}
 use lib.Dec.{T, ltb, ltb→lt, nltb→le}
 use Rattle.tables.specs.Choice.{pick, listed}
-use Rattle.tables.specs.Keys.{firstAt, greaterAt}
+use Rattle.nodes.specs.Keys.{firstAt, greaterAt}
 use Rattle.tables.proofs.Lists.{listed-ext}
 use Rattle.history.specs.View.{In, route}
 

@@ -12,9 +12,9 @@ use borrow.Author.Tests.{eqb-true, eqb-false}
 use lib.ListN.{length, getD, take, drop, length-append, length-drop, take-append-drop}
 use lib.Seq.{length-take-le}
 use Rattle.tables.specs.Choice.{pick, listed}
-use Rattle.tables.specs.Keys.{firstAt, greaterAt, equalAt, putIn, takenOut}
+use Rattle.nodes.specs.Keys.{firstAt, greaterAt, equalAt, putIn, takenOut}
 use Rattle.tables.proofs.Lists.{length-listed, getD-listed}
-use Rattle.tables.proofs.Keyed.{first-in}
+use Rattle.nodes.proofs.Keyed.{first-in}
 use Rattle.history.specs.Keys.{Each, none, next, Rises, Apart}
 
 -- a key put in before the first of a row, or behind it; a key that is the first taken out, or one behind it

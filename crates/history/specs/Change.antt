@@ -6,7 +6,7 @@ use mathlib.Core.List.{List, [], _∷_, List·Memᴰ}
 use Prim.Native.Nat.{ℕ, zero, suc, _+_, _*_, _-_, _/_, _%_, _≤_, _<_}
 use lib.ListN.{getD}
 use Rattle.tables.specs.Numbers.{infinity}
-use Rattle.tables.specs.Keys.{putIn, takenOut}
+use Rattle.nodes.specs.Keys.{putIn, takenOut}
 use Rattle.history.specs.View.{View, In, route, keys, On}
 use Rattle.history.specs.Shared.{Desc, Shared, Done, Failed, Pair}
 

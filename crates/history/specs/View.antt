@@ -4,7 +4,7 @@ use mathlib.Core.Logic.{_≢_}
 use mathlib.Core.List.{List, List·Memᴰ}
 use Prim.Native.Nat.{ℕ, _-_, _≤_}
 use Rattle.tables.specs.Choice.{pick, within, listed}
-use Rattle.tables.specs.Keys.{routeBy}
+use Rattle.nodes.specs.Keys.{routeBy}
 
 -- tag: how many keys a leaf has, k for an internal node; keys and children by index from 1; pending: 4·record + kind
 pub record View : Type 0 where

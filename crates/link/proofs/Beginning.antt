@@ -11,7 +11,7 @@ use Rattle.tables.specs.Numbers.{kStored, numbersGood, nodeWords, infinity}
 use Rattle.tables.specs.Layout.{blockWords, nodeAt, nodeWord, childPlace, pendingPlace, overFront}
 use Rattle.tables.specs.Header.{headerOf}
 use Rattle.tables.specs.Place.{inNode, Inside}
-use Rattle.tables.specs.Node.{imageWord, internalImage}
+use Rattle.nodes.specs.Node.{imageWord, internalImage}
 use Rattle.fresh.specs.Fresh.{freshHeader, headerImage, rootImage, dummyImage, freshBlock}
 use Rattle.tables.specs.declared.header.Header.{Header}
 use Rattle.tables.proofs.Limits.{NumberLimits, number-limits}

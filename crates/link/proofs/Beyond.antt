@@ -11,8 +11,8 @@ use Rattle.tables.specs.Choice.{pick, Reason, Verdict, refused, accepted, verdi
 use Rattle.tables.specs.Numbers.{nodeWords, recordWords}
 use Rattle.tables.specs.Layout.{blockWords, nodeAt, recordAt, nodeWord, pendingPlace, tagWord}
 use Rattle.tables.specs.Place.{Place, inHeader, inNode, inRecord, inStack, placeAt, Inside}
-use Rattle.tables.specs.Node.{leafImage, withNode}
-use Rattle.tables.specs.Pending.{wordOf, replaceKind, pruneKind}
+use Rattle.nodes.specs.Node.{leafImage, withNode}
+use Rattle.nodes.specs.Pending.{wordOf, replaceKind, pruneKind}
 use Rattle.tables.specs.Header.{headerOf}
 use Rattle.tables.specs.Refusal.{refusal}
 use Rattle.tables.specs.declared.header.Header.{Header}

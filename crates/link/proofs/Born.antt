@@ -11,12 +11,12 @@ use lib.Seq.{getD-drop, ext-getD}
 use Rattle.tables.specs.Choice.{pick, listed}
 use Rattle.tables.specs.Numbers.{nodeWords}
 use Rattle.tables.specs.Layout.{nodeWord, tagWord, childPlace, pendingPlace}
-use Rattle.tables.specs.Node.{leafImage}
-use Rattle.tables.specs.Keys.{keysOf, equalAt, putIn, takenOut, keyArray}
+use Rattle.nodes.specs.Node.{leafImage}
+use Rattle.nodes.specs.Keys.{keysOf, equalAt, putIn, takenOut, keyArray}
 use Rattle.tables.specs.declared.header.Header.{Header}
 use Rattle.tables.proofs.Picks.{pick-true, pick-false}
 use Rattle.tables.proofs.Lists.{length-listed, getD-listed}
-use Rattle.tables.proofs.Keyed.{holds-is}
+use Rattle.nodes.proofs.Keyed.{holds-is}
 use Rattle.draws.specs.declared.Job.{Job}
 use Rattle.draws.specs.Draw.{newNode, newRecord, sprouts, neededNodes, newKeys, newCount, largest, sproutDrawn, nodesDrawn, replaceDrawn}
 use Rattle.draws.proofs.After.{Room, replace-new, leaf-same, sprout-stem, sprout-leaf, stemImage}

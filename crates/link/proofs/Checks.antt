@@ -9,14 +9,14 @@ use borrow.Author.Tests.{lt-ltb, le-ltb, le-leb, eq-eqb}
 use Rattle.tables.specs.Choice.{pick, both, within}
 use Rattle.tables.specs.Numbers.{infinity}
 use Rattle.tables.specs.Layout.{tagWord, recordWord, lField, pField, thirdField, expectedField, processField, operationField, keyField}
-use Rattle.tables.specs.Pending.{wordOf, pendingOf, recordOfKind, pendingGood}
-use Rattle.tables.specs.Node.{kinOfTag, kinOf, belowOf, isNode, isInternal, isLeaf}
+use Rattle.nodes.specs.Pending.{wordOf, pendingOf, recordOfKind, pendingGood}
+use Rattle.nodes.specs.Node.{kinOfTag, kinOf, belowOf, isNode, isInternal, isLeaf}
 use Rattle.tables.specs.declared.header.Header.{Header}
-use Rattle.tables.specs.declared.node.Kin.the-variants.{Leaf, Internal}
-use Rattle.tables.specs.declared.node.Child.the-variants.{Node}
-use Rattle.tables.specs.declared.pending.Pending.{Pending}
-use Rattle.tables.specs.declared.pending.Pending.the-variants.{Clean, Replace, Prune, Mark}
-use Rattle.tables.proofs.OneToOne.{pending-word}
+use Rattle.nodes.specs.declared.node.Kin.the-variants.{Leaf, Internal}
+use Rattle.nodes.specs.declared.node.Child.the-variants.{Node}
+use Rattle.nodes.specs.declared.pending.Pending.{Pending}
+use Rattle.nodes.specs.declared.pending.Pending.the-variants.{Clean, Replace, Prune, Mark}
+use Rattle.nodes.proofs.Written.{pending-word}
 use Rattle.tables.proofs.Picks.{both-is}
 use Rattle.damage.specs.Helped.{ownerGood, expectedGood, recordGood}
 use Rattle.history.specs.View.{In}

@@ -8,7 +8,7 @@ use Rattle.tables.specs.Numbers.{nodeWords, recordWords}
 use Rattle.tables.specs.Layout.{blockWords, nodeWord, recordWord, stackWord, childPlace, pendingPlace, pendingWord}
 use Rattle.tables.specs.Header.{headerOf, headerFrom}
 use Rattle.tables.specs.Place.{Place, inHeader, inNode, inRecord, inStack, placeAt, Inside}
-use Rattle.tables.specs.Pending.{replaceKind, pruneKind}
+use Rattle.nodes.specs.Pending.{replaceKind, pruneKind}
 use Rattle.tables.specs.declared.header.Header.{Header}
 use Rattle.tables.proofs.Places.{header-node, header-record, header-stack, node-record, node-stack, record-stack, node-word, record-row}
 use Rattle.draws.specs.declared.Job.{Job}

@@ -12,7 +12,7 @@ use borrow.Author.Tests.{eqb-true, eqb-false, eq-eqb, ne-eqb}
 use Rattle.tables.specs.Choice.{pick, both}
 use Rattle.tables.specs.Layout.{depthOf, nodeAt, stackAt, nodeWord, pendingWord, recordWord, stackWord, pendingPlace, pField, thirdField}
 use Rattle.tables.specs.Place.{inNode, inStack, Inside}
-use Rattle.tables.specs.Pending.{pendingOf, recordOfKind}
+use Rattle.nodes.specs.Pending.{pendingOf, recordOfKind}
 use Rattle.tables.specs.declared.header.Header.{Header}
 use Rattle.tables.proofs.Places.{read-same, read-other}
 use Rattle.tables.proofs.Picks.{both-is}

@@ -7,7 +7,7 @@ use lib.ListN.{replicate}
 use Rattle.tables.specs.Choice.{pick, both, listed}
 use Rattle.tables.specs.Numbers.{numbersGood}
 use Rattle.tables.specs.Header.{headerGood}
-use Rattle.tables.specs.Keys.{rises, holds, firstAt}
+use Rattle.nodes.specs.Keys.{rises, holds, firstAt}
 use Rattle.process.specs.Process.{idle}
 use Rattle.process.specs.declared.Answer.the-variants.{Yes}
 use Rattle.damage.specs.Fields as fields

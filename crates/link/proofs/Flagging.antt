@@ -9,13 +9,13 @@ use native.Mathlib.Decide.{decLe}
 use borrow.Author.Tests.{eqb-true, eq-eqb, ne-eqb}
 use Rattle.tables.specs.Choice.{pick, both}
 use Rattle.tables.specs.Layout.{tagWord, pendingWord, recordWord, processField, operationField, keyField}
-use Rattle.tables.specs.Pending.{wordOf, pendingOf}
-use Rattle.tables.specs.Node.{kinOf, isNode}
-use Rattle.tables.specs.Keys.{keysOf, rises, holds}
+use Rattle.nodes.specs.Pending.{wordOf, pendingOf}
+use Rattle.nodes.specs.Node.{kinOf, isNode}
+use Rattle.nodes.specs.Keys.{keysOf, rises, holds}
 use Rattle.tables.specs.declared.header.Header.{Header}
-use Rattle.tables.specs.declared.node.Kin.{Kin}
-use Rattle.tables.specs.declared.pending.Pending.{Pending}
-use Rattle.tables.specs.declared.pending.Pending.the-variants.{Clean, Replace, Prune, Mark}
+use Rattle.nodes.specs.declared.node.Kin.{Kin}
+use Rattle.nodes.specs.declared.pending.Pending.{Pending}
+use Rattle.nodes.specs.declared.pending.Pending.the-variants.{Clean, Replace, Prune, Mark}
 use Rattle.tables.proofs.Picks.{both-1, both-2, both-is, either-some}
 use Rattle.process.specs.declared.Process.{Process}
 use Rattle.process.specs.declared.Stepped.{Stepped}

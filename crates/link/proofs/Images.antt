@@ -8,8 +8,8 @@ use lib.ListN.{getD}
 use Rattle.tables.specs.Choice.{pick}
 use Rattle.tables.specs.Numbers.{nodeWords, keyRoom}
 use Rattle.tables.specs.Layout.{childPlace, pendingPlace}
-use Rattle.tables.specs.Node.{imageWord, nodeImage}
-use Rattle.tables.specs.Keys.{keyArray}
+use Rattle.nodes.specs.Node.{imageWord, nodeImage}
+use Rattle.nodes.specs.Keys.{keyArray}
 use Rattle.tables.proofs.Lists.{getD-listed₀}
 use Rattle.history.specs.View.{In}
 

@@ -9,10 +9,10 @@ use lib.Dec.{eqb}
 use borrow.Author.Tests.{eqb-true}
 use Rattle.tables.specs.Choice.{pick, both}
 use Rattle.tables.specs.declared.header.Header.{Header}
-use Rattle.tables.specs.declared.node.Kin.{Kin}
-use Rattle.tables.specs.declared.node.Kin.the-variants.{Leaf, Internal}
-use Rattle.tables.specs.declared.pending.Pending.{Pending}
-use Rattle.tables.specs.declared.pending.Pending.the-variants.{Clean, Replace, Prune, Mark}
+use Rattle.nodes.specs.declared.node.Kin.{Kin}
+use Rattle.nodes.specs.declared.node.Kin.the-variants.{Leaf, Internal}
+use Rattle.nodes.specs.declared.pending.Pending.{Pending}
+use Rattle.nodes.specs.declared.pending.Pending.the-variants.{Clean, Replace, Prune, Mark}
 use Rattle.process.specs.declared.Process.{Process}
 use Rattle.process.specs.declared.Answer.{Answer}
 use Rattle.process.specs.declared.Stepped.{Stepped}
@@ -20,7 +20,7 @@ use Rattle.process.specs.Process.{restartedOf, withPoint, withL, withIndex, wit
 use Rattle.process.specs.Answer.{answer, goingOn, endingOf}
 use Rattle.draws.specs.Draw.{newRecord}
 use Rattle.help.specs.Touch.{Row, seenBy}
-use Rattle.tables.specs.Pending.{pendingOf}
+use Rattle.nodes.specs.Pending.{pendingOf}
 use Rattle.help.specs.Help.{topOf, helping, helpEnded}
 use Rattle.help.specs.Reads.{kinAt}
 use Rattle.finish.specs.Rows.{lookRow, hangRow, unflagRow, row6, row7, row8, row12, row13, row14}

@@ -10,7 +10,7 @@ use lib.ListN.{getD}
 use Rattle.tables.specs.Choice.{pick, both}
 use Rattle.tables.specs.Numbers.{infinity}
 use Rattle.tables.specs.Layout.{keyWord, tagWord}
-use Rattle.tables.specs.Keys.{keysOf, rises, holds, routeOf}
+use Rattle.nodes.specs.Keys.{keysOf, rises, holds, routeOf}
 use Rattle.tables.specs.declared.header.Header.{Header}
 use Rattle.history.specs.View.{route, keys}
 use Rattle.history.specs.Keys.{Rises, next}

@@ -13,7 +13,7 @@ use borrow.Author.Tests.{eqb-true, eqb-false, eq-eqb, ne-eqb, ltb-true, ltb-fals
 use Rattle.tables.specs.Choice.{pick, both, either}
 use Rattle.tables.specs.Layout.{depthOf, nodeAt, stackAt, nodeWord, tagWord, childWord, pendingWord, recordWord, pendingPlace, lField, pField, expectedField}
 use Rattle.tables.specs.Place.{inNode, inStack, Inside}
-use Rattle.tables.specs.Pending.{pendingOf}
+use Rattle.nodes.specs.Pending.{pendingOf}
 use Rattle.tables.specs.declared.header.Header.{Header}
 use Rattle.tables.proofs.Places.{read-same}
 use Rattle.tables.proofs.Picks.{both-1, both-2, both-is}

@@ -11,11 +11,11 @@ use borrow.Author.Tests.{lt-ltb, le-leb, ne-eqb, eqb-true, leb-true, ltb-false}
 use Rattle.tables.specs.Choice.{pick, both, within}
 use Rattle.tables.specs.Numbers.{infinity}
 use Rattle.tables.specs.Layout.{depthOf, tagWord, recordWord, processField}
-use Rattle.tables.specs.Pending.{wordOf}
-use Rattle.tables.specs.Node.{kinOf, isNode, isInternal, isLeaf}
+use Rattle.nodes.specs.Pending.{wordOf}
+use Rattle.nodes.specs.Node.{kinOf, isNode, isInternal, isLeaf}
 use Rattle.tables.specs.declared.header.Header.{Header}
-use Rattle.tables.specs.declared.pending.Pending.{Pending}
-use Rattle.tables.specs.declared.pending.Pending.the-variants.{Clean, Replace, Prune, Mark}
+use Rattle.nodes.specs.declared.pending.Pending.{Pending}
+use Rattle.nodes.specs.declared.pending.Pending.the-variants.{Clean, Replace, Prune, Mark}
 use Rattle.tables.proofs.Picks.{within-low, within-high, both-is}
 use Rattle.process.specs.declared.Process.{Process}
 use Rattle.damage.specs.Fields.{given, zeroOr, pointOfInsert, pointGood, usesIndex, numbersGood, nodesGood, recordsGood, usesGood, processGood}

@@ -9,7 +9,7 @@ use lib.Pow.{pow-pos}
 use Rattle.tables.specs.Numbers.{infinity}
 use Rattle.tables.specs.Layout.{childWord, recordWord, processField, operationField, keyField}
 use Rattle.tables.specs.declared.header.Header.{Header}
-use Rattle.tables.specs.declared.pending.Pending.the-variants.{Clean}
+use Rattle.nodes.specs.declared.pending.Pending.the-variants.{Clean}
 use Rattle.process.specs.declared.Process.{Process}
 use Rattle.process.specs.declared.Answer.{Answer}
 use Rattle.process.specs.declared.Answer.the-variants.{No, Yes, Full}

@@ -12,14 +12,14 @@ use lib.Dec.{eqb}
 use borrow.Author.Tests.{eqb-true, eqb-false, ne-eqb}
 use Rattle.tables.specs.Choice.{pick, both}
 use Rattle.tables.specs.Layout.{tagWord, childWord, pendingWord}
-use Rattle.tables.specs.Pending.{wordOf, pendingOf}
-use Rattle.tables.specs.Keys.{keysOf, rises, holds, routeOf}
+use Rattle.nodes.specs.Pending.{wordOf, pendingOf}
+use Rattle.nodes.specs.Keys.{keysOf, rises, holds, routeOf}
 use Rattle.tables.specs.declared.header.Header.{Header}
-use Rattle.tables.specs.declared.node.Kin.{Kin}
-use Rattle.tables.specs.declared.node.Kin.the-variants.{Leaf, Internal}
-use Rattle.tables.specs.declared.pending.Pending.{Pending}
-use Rattle.tables.specs.declared.pending.Pending.the-variants.{Clean, Replace, Prune, Mark}
-use Rattle.tables.proofs.OneToOne.{pending-word, word-pending}
+use Rattle.nodes.specs.declared.node.Kin.{Kin}
+use Rattle.nodes.specs.declared.node.Kin.the-variants.{Leaf, Internal}
+use Rattle.nodes.specs.declared.pending.Pending.{Pending}
+use Rattle.nodes.specs.declared.pending.Pending.the-variants.{Clean, Replace, Prune, Mark}
+use Rattle.nodes.proofs.Written.{pending-word, word-pending}
 use Rattle.tables.proofs.Picks.{both-is}
 use Rattle.process.specs.declared.Process.{Process}
 use Rattle.process.specs.Process.{withPoint, withPSeen, withL, descendedOf, toThree, isCleanOf}

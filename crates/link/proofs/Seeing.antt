@@ -8,10 +8,10 @@ use native.Mathlib.Omega.{arith}
 use native.Mathlib.Decide.{ℕ-discrete}
 use borrow.Author.Tests.{eq-eqb, ne-eqb}
 use Rattle.tables.specs.Choice.{pick, both}
-use Rattle.tables.specs.Pending.{pendingOf}
+use Rattle.nodes.specs.Pending.{pendingOf}
 use Rattle.tables.specs.declared.header.Header.{Header}
-use Rattle.tables.specs.declared.pending.Pending.{Pending}
-use Rattle.tables.specs.declared.pending.Pending.the-variants.{Clean, Replace, Prune, Mark}
+use Rattle.nodes.specs.declared.pending.Pending.{Pending}
+use Rattle.nodes.specs.declared.pending.Pending.the-variants.{Clean, Replace, Prune, Mark}
 use Rattle.process.specs.declared.Process.{Process}
 use Rattle.process.specs.Process.{toSix, toNine, toTen, toEleven}
 use Rattle.process.specs.Answer.{goingOn}

@@ -9,13 +9,13 @@ use borrow.Author.Tests.{lt-ltb, le-ltb, eq-eqb, ne-eqb}
 use Rattle.tables.specs.Choice.{pick, both, either}
 use Rattle.tables.specs.Refusal.{refusal}
 use Rattle.tables.specs.Layout.{depthOf, nodeAt, stackAt, stackWord, childWord, pendingWord, pendingPlace}
-use Rattle.tables.specs.Pending.{pendingOf, pruneKind, recordOfKind, pendingGood}
-use Rattle.tables.specs.Node.{belowOf, isNode}
+use Rattle.nodes.specs.Pending.{pendingOf, pruneKind, recordOfKind, pendingGood}
+use Rattle.nodes.specs.Node.{belowOf, isNode}
 use Rattle.tables.specs.declared.header.Header.{Header}
-use Rattle.tables.specs.declared.pending.Pending.{Pending}
-use Rattle.tables.specs.declared.node.Kin.{Kin}
-use Rattle.tables.specs.declared.node.Child.{Child}
-use Rattle.tables.specs.declared.node.Child.the-variants.{Node, Damaged}
+use Rattle.nodes.specs.declared.pending.Pending.{Pending}
+use Rattle.nodes.specs.declared.node.Kin.{Kin}
+use Rattle.nodes.specs.declared.node.Child.{Child}
+use Rattle.nodes.specs.declared.node.Child.the-variants.{Node, Damaged}
 use Rattle.tables.proofs.Picks.{both-true, both-false}
 use Rattle.process.specs.Process.{withIndex, withOther, withDepth, toEleven, toTwelve}
 use Rattle.process.specs.Answer.{goingOn, refusedAs}

@@ -7,7 +7,7 @@ use lib.ListN.{set}
 use Rattle.tables.specs.Choice.{pick}
 use Rattle.tables.specs.Refusal.{refusal}
 use Rattle.tables.specs.Layout.{depthOf, nodeAt, stackAt, pendingPlace}
-use Rattle.tables.specs.Pending.{pendingOf}
+use Rattle.nodes.specs.Pending.{pendingOf}
 use Rattle.tables.specs.declared.header.Header.{Header}
 use Rattle.process.specs.Process.{withDepth, toEleven}
 use Rattle.process.specs.Answer.{goingOn, refusedAs}

@@ -7,9 +7,9 @@ use lib.ListN.{set}
 use Rattle.tables.specs.Choice.{pick, both, either}
 use Rattle.tables.specs.Refusal.{refusal}
 use Rattle.tables.specs.Layout.{depthOf, stackAt, stackWord}
-use Rattle.tables.specs.Pending.{pendingOf, recordOfKind, pruneKind}
+use Rattle.nodes.specs.Pending.{pendingOf, recordOfKind, pruneKind}
 use Rattle.tables.specs.declared.header.Header.{Header}
-use Rattle.tables.specs.declared.node.Kin.{Kin}
+use Rattle.nodes.specs.declared.node.Kin.{Kin}
 use Rattle.process.specs.Process.{withIndex, withOther, withDepth, toEleven, toTwelve}
 use Rattle.process.specs.Answer.{goingOn, refusedAs}
 use Rattle.process.specs.declared.Process.{Process}

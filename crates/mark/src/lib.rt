@@ -7,22 +7,22 @@ ghost use lib.Dec.{ltb, eqb};
 ghost use lib.ListN.{set};
 ghost use Rattle.tables.specs.Choice.{both, either};
 ghost use Rattle.tables.specs.Layout.{stackAt};
-ghost use Rattle.tables.specs.Pending.{pendingOf, pendingGood};
+ghost use Rattle.nodes.specs.Pending.{pendingOf, pendingGood};
 ghost use Rattle.process.specs.Answer.{goingOn};
 ghost use Rattle.process.specs.Process.{withDepth, toEleven};
 ghost use Rattle.help.specs.Touch.{out, rowDone};
 ghost use Rattle.help.specs.Help.{helpEnded};
 ghost use Rattle.mark.specs.Parts.{pushed, markedOrPushed, noteDone};
 ghost use Rattle.mark.specs.Rows.{underTop, popGood, notesKin, otherWith, noted as notedOf, row10, row11, pruneMarked};
+use nodes::node;
+use nodes::node::Child;
+use nodes::node::Kin;
+use nodes::pending;
 use process::Process;
 use process::Stepped;
 use tables::choice;
 use tables::header;
 use tables::header::Header;
-use tables::node;
-use tables::node::Child;
-use tables::node::Kin;
-use tables::pending;
 use tables::words;
 
 // "Else push the record and help what was seen."

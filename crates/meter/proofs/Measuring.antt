@@ -8,15 +8,15 @@ use native.Mathlib.Numerals.{add-one}
 use lib.ListN.{length-append}
 use Rattle.tables.specs.Choice.{pick, both, either, within, listed}
 use Rattle.tables.specs.Layout.{keyWord}
-use Rattle.tables.specs.Keys.{keysOf, rises}
-use Rattle.tables.specs.Node.{kinOf, childOf}
+use Rattle.nodes.specs.Keys.{keysOf, rises}
+use Rattle.nodes.specs.Node.{kinOf, childOf}
 use Rattle.tables.specs.declared.header.Header.{Header}
-use Rattle.tables.specs.declared.node.Kin.{Kin}
-use Rattle.tables.specs.declared.node.Kin.the-variants.{Leaf, Internal}
-use Rattle.tables.specs.declared.node.Child.{Child}
-use Rattle.tables.specs.declared.node.Child.the-variants.{Node, Damaged}
+use Rattle.nodes.specs.declared.node.Kin.{Kin}
+use Rattle.nodes.specs.declared.node.Kin.the-variants.{Leaf, Internal}
+use Rattle.nodes.specs.declared.node.Child.{Child}
+use Rattle.nodes.specs.declared.node.Child.the-variants.{Node, Damaged}
 use Rattle.tables.proofs.Picks.{both-true, both-false, both-assoc}
-use Rattle.tables.proofs.Keyed.{keys-length}
+use Rattle.nodes.proofs.Keyed.{keys-length}
 use Rattle.meter.specs.Walk.{Walk, begin, damaged, leafMet, metFrom, walked}
 use Rattle.meter.specs.Measure.{anyWithin, Roomy, measureOf, measured, spentMeter, damagedMeter, Measured}
 use Rattle.meter.specs.declared.Meter.{Meter}

@@ -4,12 +4,12 @@ use mathlib.Core.Bool.{Bool, true, false}
 use mathlib.Core.List.{List, [], _++_}
 use lib.Dec.{eqb}
 use Rattle.tables.specs.Choice.{pick, both}
-use Rattle.tables.specs.Node.{kinOf, childOf}
-use Rattle.tables.specs.Keys.{keysOf, rises}
+use Rattle.nodes.specs.Node.{kinOf, childOf}
+use Rattle.nodes.specs.Keys.{keysOf, rises}
 use Rattle.tables.specs.declared.header.Header.{Header}
-use Rattle.tables.specs.declared.node.Kin.the-variants.{Leaf, Internal}
-use Rattle.tables.specs.declared.node.Child.{Child}
-use Rattle.tables.specs.declared.node.Child.the-variants.{Node, Damaged}
+use Rattle.nodes.specs.declared.node.Kin.the-variants.{Leaf, Internal}
+use Rattle.nodes.specs.declared.node.Child.{Child}
+use Rattle.nodes.specs.declared.node.Child.the-variants.{Node, Damaged}
 
 -- where a walk stands: how many nodes it may still meet, the keys that it has met, in order, and whether it has met no damage
 pub record Walk : Type 0 where

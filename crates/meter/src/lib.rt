@@ -2,16 +2,16 @@
 // Its one public function asks nothing of its caller.
 ghost use mathlib.Core.Path.{_≡_};
 ghost use Prim.Native.Nat.{_-_, _<_};
-ghost use Rattle.tables.specs.Keys.{keysOf};
+ghost use Rattle.nodes.specs.Keys.{keysOf};
 ghost use Rattle.meter.specs.Walk.{begin, leafMet, metFrom, walked};
 ghost use Rattle.meter.specs.Measure.{anyWithin, Roomy, measureOf, Measured, spentMeter, damagedMeter};
+use nodes::keys;
+use nodes::node;
+use nodes::node::Child;
+use nodes::node::Kin;
 use tables::choice;
 use tables::header;
 use tables::header::Header;
-use tables::keys;
-use tables::node;
-use tables::node::Child;
-use tables::node::Kin;
 
 // Nodes still allowed, keys met, whether one of them lies in the range, and whether no damage was met.
 pub struct Meter {

@@ -1,6 +1,7 @@
 -- One outcome, for every public function of each library.
 pub mod Law
 pub mod Tables
+pub mod Nodes
 pub mod Fresh
 pub mod Process
 pub mod Damage

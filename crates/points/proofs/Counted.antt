@@ -7,15 +7,15 @@ use native.Mathlib.Omega.{arith}
 use lib.Dec.{eqb}
 use Rattle.tables.specs.Choice.{pick, both, either}
 use Rattle.tables.specs.Layout.{tagWord}
-use Rattle.tables.specs.Pending.{pendingOf}
-use Rattle.tables.specs.Keys.{keysOf, holds}
+use Rattle.nodes.specs.Pending.{pendingOf}
+use Rattle.nodes.specs.Keys.{keysOf, holds}
 use Rattle.tables.specs.Header.{headerOf}
 use Rattle.tables.specs.declared.header.Header.{Header}
 use Rattle.tables.specs.declared.numbers.Refusal.{Refusal}
-use Rattle.tables.specs.declared.pending.Pending.{Pending}
-use Rattle.tables.specs.declared.pending.Pending.the-variants.{Clean, Replace, Prune, Mark}
-use Rattle.tables.specs.declared.node.Kin.{Kin}
-use Rattle.tables.specs.declared.node.Kin.the-variants.{Leaf, Internal}
+use Rattle.nodes.specs.declared.pending.Pending.{Pending}
+use Rattle.nodes.specs.declared.pending.Pending.the-variants.{Clean, Replace, Prune, Mark}
+use Rattle.nodes.specs.declared.node.Kin.{Kin}
+use Rattle.nodes.specs.declared.node.Kin.the-variants.{Leaf, Internal}
 use Rattle.process.specs.Process.{idle, restartedOf, withPoint, withPSeen, withL, withIndex, withMask, withOther, withDepth, withOwn, descendedOf, toThree, toSix, toNine, toTen, toEleven, toTwelve}
 use Rattle.process.specs.Answer.{answer, stepsUp, goingOn, endingOf}
 use Rattle.process.specs.declared.Process.{Process}

@@ -10,15 +10,15 @@ use borrow.Author.Tests.{leb-true, ltb-true, eqb-false, eq-eqb, le-ltb, lt-leb, 
 use Rattle.tables.specs.Choice.{pick, both, either}
 use Rattle.tables.specs.Layout.{depthOf, stackAt, tagWord, childPlace, pendingPlace}
 use Rattle.tables.specs.Place.{Place, inNode}
-use Rattle.tables.specs.Pending.{wordOf}
-use Rattle.tables.specs.Node.{kinOf, nodeGood, isInternal}
-use Rattle.tables.specs.Keys.{keysOf, routeOf}
+use Rattle.nodes.specs.Pending.{wordOf}
+use Rattle.nodes.specs.Node.{kinOf, nodeGood, isInternal}
+use Rattle.nodes.specs.Keys.{keysOf, routeOf}
 use Rattle.tables.specs.declared.header.Header.{Header}
-use Rattle.tables.specs.declared.node.Child.{Child}
-use Rattle.tables.specs.declared.node.Child.the-variants.{Damaged}
+use Rattle.nodes.specs.declared.node.Child.{Child}
+use Rattle.nodes.specs.declared.node.Child.the-variants.{Damaged}
 use Rattle.tables.proofs.Picks.{both-1, both-2, pick-true, pick-false, within-low, within-high}
 use Rattle.tables.proofs.Lists.{length-listed}
-use Rattle.tables.proofs.Keyed.{first-in}
+use Rattle.nodes.proofs.Keyed.{first-in}
 use Rattle.process.specs.declared.Process.{Process}
 use Rattle.damage.specs.Fields.{numbersGood, nodesGood, usesGood, processGood}
 use Rattle.damage.specs.Helped.{kindAt, placesGood, recordGood, helpedGood}

@@ -13,15 +13,15 @@ use borrow.Author.Tests.{lt-ltb, le-ltb, ne-eqb}
 use Rattle.tables.specs.Choice.{pick, both}
 use Rattle.tables.specs.Refusal.{refusal}
 use Rattle.tables.specs.Layout.{tagWord, pendingWord}
-use Rattle.tables.specs.Pending.{pendingOf, pendingGood}
-use Rattle.tables.specs.Node.{childOf, isNode}
-use Rattle.tables.specs.Keys.{keysOf, rises, holds, routeOf}
+use Rattle.nodes.specs.Pending.{pendingOf, pendingGood}
+use Rattle.nodes.specs.Node.{childOf, isNode}
+use Rattle.nodes.specs.Keys.{keysOf, rises, holds, routeOf}
 use Rattle.tables.specs.declared.header.Header.{Header}
-use Rattle.tables.specs.declared.pending.Pending.{Pending}
-use Rattle.tables.specs.declared.node.Kin.{Kin}
-use Rattle.tables.specs.declared.node.Kin.the-variants.{Leaf, Internal}
-use Rattle.tables.specs.declared.node.Child.{Child}
-use Rattle.tables.specs.declared.node.Child.the-variants.{Node, Damaged}
+use Rattle.nodes.specs.declared.pending.Pending.{Pending}
+use Rattle.nodes.specs.declared.node.Kin.{Kin}
+use Rattle.nodes.specs.declared.node.Kin.the-variants.{Leaf, Internal}
+use Rattle.nodes.specs.declared.node.Child.{Child}
+use Rattle.nodes.specs.declared.node.Child.the-variants.{Node, Damaged}
 use Rattle.process.specs.Process.{withPoint, withPSeen, withL, withIndex, withMask, descendedOf, toThree, isCleanOf}
 use Rattle.process.specs.Answer.{goingOn, endingOf, refusedAs}
 use Rattle.process.specs.declared.Process.{Process}

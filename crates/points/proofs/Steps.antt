@@ -10,14 +10,14 @@ use Rattle.tables.specs.Choice.{pick, both, within}
 use Rattle.tables.specs.Numbers.{infinity}
 use Rattle.tables.specs.Refusal.{refusal}
 use Rattle.tables.specs.Header.{headerOf, headerGood, headerRead}
-use Rattle.tables.specs.Pending.{wordOf, pendingGood}
+use Rattle.nodes.specs.Pending.{wordOf, pendingGood}
 use Rattle.tables.specs.declared.header.Header.{Header}
 use Rattle.tables.specs.declared.header.HeaderRead.{HeaderRead}
 use Rattle.tables.specs.declared.header.HeaderRead.the-variants.{Good, Refused}
 use Rattle.tables.specs.declared.numbers.Refusal.{Refusal}
 use Rattle.tables.specs.declared.numbers.Refusal.the-variants.{TooShort, NoSuchProcess, UnknownOperation, InfinityGiven, Busy, Idle}
-use Rattle.tables.specs.declared.pending.Pending.{Pending}
-use Rattle.tables.specs.declared.pending.Pending.the-variants.{Clean, Replace, Prune, Mark}
+use Rattle.nodes.specs.declared.pending.Pending.{Pending}
+use Rattle.nodes.specs.declared.pending.Pending.the-variants.{Clean, Replace, Prune, Mark}
 use Rattle.tables.proofs.Picks.{both-1, both-2, both-true, pick-true, pick-false, within-high}
 use Rattle.tables.proofs.Limits.{Limits, limits, read-header, read-limits, read-refuses, read-accepts}
 use Rattle.process.specs.Process.{startedAs}

@@ -14,7 +14,7 @@ use Rattle.tables.specs.Numbers.{recordWords, numbersGood as inLimits}
 use Rattle.tables.specs.Layout.{blockWords, nodeAt, nodeWord, recordWord, tagWord, pendingPlace}
 use Rattle.tables.specs.Header.{headerOf, headerFrom, headerGood, headerRead}
 use Rattle.tables.specs.Place.{Place, inHeader, inNode, inRecord, inStack, placeAt, Inside}
-use Rattle.tables.specs.Pending.{wordOf, replaceKind, pruneKind}
+use Rattle.nodes.specs.Pending.{wordOf, replaceKind, pruneKind}
 use Rattle.tables.specs.declared.header.Header.{Header}
 use Rattle.tables.proofs.Picks.{both-1, both-2, pick-true, pick-false}
 use Rattle.tables.specs.declared.header.HeaderRead.the-variants.{Good}

@@ -2,7 +2,7 @@
 use Prim.Native.Nat.{ℕ, _<_, _≤_}
 use mathlib.Core.List.{List, _++_}
 use Rattle.tables.specs.Choice.{decide}
-use Rattle.tables.specs.Pending.{wordOf}
+use Rattle.nodes.specs.Pending.{wordOf}
 use Rattle.tables.specs.declared.header.Header.{Header}
 use Rattle.process.specs.Process.{startedAs}
 use Rattle.process.specs.declared.Process.{Process}

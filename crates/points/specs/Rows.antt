@@ -8,11 +8,11 @@ use lib.Dec.{ltb, eqb}
 use Rattle.tables.specs.Choice.{pick, both}
 use Rattle.tables.specs.Refusal.{refusal}
 use Rattle.tables.specs.Layout.{tagWord}
-use Rattle.tables.specs.Pending.{pendingOf}
-use Rattle.tables.specs.Keys.{keysOf, rises, holds, routeOf}
+use Rattle.nodes.specs.Pending.{pendingOf}
+use Rattle.nodes.specs.Keys.{keysOf, rises, holds, routeOf}
 use Rattle.tables.specs.declared.header.Header.{Header}
-use Rattle.tables.specs.declared.node.Kin.{Kin}
-use Rattle.tables.specs.declared.node.Kin.the-variants.{Leaf, Internal}
+use Rattle.nodes.specs.declared.node.Kin.{Kin}
+use Rattle.nodes.specs.declared.node.Kin.the-variants.{Leaf, Internal}
 use Rattle.process.specs.Process.{withPoint, withPSeen, withL, withIndex, withMask, descendedOf, toThree, isCleanOf}
 use Rattle.process.specs.Answer.{answer, goingOn, endingOf, refusedAs}
 use Rattle.process.specs.declared.Process.{Process}

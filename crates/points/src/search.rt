@@ -5,21 +5,21 @@ ghost use Prim.Native.Nat.{_≤_};
 ghost use lib.Dec.{eqb};
 ghost use Rattle.tables.specs.Choice.{pick, both};
 ghost use Rattle.tables.specs.Refusal.{refusal};
-ghost use Rattle.tables.specs.Keys.{keysOf, rises};
+ghost use Rattle.nodes.specs.Keys.{keysOf, rises};
 ghost use Rattle.process.specs.Answer.{refusedAs};
 ghost use Rattle.help.specs.Touch.{out, rowDone};
 ghost use Rattle.points.specs.Rows.{insertAt, deleteAt, findAt, atLeaf, atChild, leafGood2, maskWith, pointAfter3, scanned3, row1, row2, row3};
+use nodes::keys;
+use nodes::node;
+use nodes::node::Child;
+use nodes::node::Kin;
+use nodes::pending;
 use process::Answer;
 use process::Process;
 use process::Stepped;
 use tables::choice;
 use tables::header;
 use tables::header::Header;
-use tables::keys;
-use tables::node;
-use tables::node::Child;
-use tables::node::Kin;
-use tables::pending;
 use tables::words;
 
 // 1. Read p's pending. To 2.

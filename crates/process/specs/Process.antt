@@ -1,8 +1,8 @@
 -- The process record: what is idle, and what each rule of "The fourteen points" sets. A field that no rule names keeps its value.
 use Prim.Native.Nat.{ℕ}
 use mathlib.Core.Bool.{Bool, true, false}
-use Rattle.tables.specs.declared.pending.Pending.{Pending}
-use Rattle.tables.specs.declared.pending.Pending.the-variants.{Clean, Replace, Prune, Mark}
+use Rattle.nodes.specs.declared.pending.Pending.{Pending}
+use Rattle.nodes.specs.declared.pending.Pending.the-variants.{Clean, Replace, Prune, Mark}
 use Rattle.process.specs.declared.Process.{Process}
 
 -- "An idle record is all zero and clean."

@@ -2,8 +2,8 @@
 ghost use mathlib.Core.Path.{_≡_};
 ghost use Rattle.process.specs.Process.{idle, startedAs, restartedOf, withPoint, withPSeen, withL, withIndex, withMask, withOther, withDepth, withOwn, descendedOf, toThree, toTwelve, toSix, toNine, toTen, toEleven, isCleanOf};
 ghost use Rattle.process.specs.Answer.{answerNumber, stepsUp, goingOn, endingOf, refusedAs};
+use nodes::pending::Pending;
 use tables::numbers::Refusal;
-use tables::pending::Pending;
 
 pub struct Process {
     pub operation: u32,

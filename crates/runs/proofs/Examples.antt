@@ -4,7 +4,7 @@ use mathlib.Core.List.{[], _∷_}
 use Rattle.tables.specs.Choice.{pick, both, listed}
 use Rattle.tables.specs.Numbers.{numbersGood}
 use Rattle.tables.specs.Header.{headerGood}
-use Rattle.tables.specs.Keys.{rises}
+use Rattle.nodes.specs.Keys.{rises}
 use Rattle.fresh.specs.Fresh.{freshHeader, freshBlock}
 use Rattle.meter.specs.Walk.{inOrder, walkOf}
 use Rattle.walk.specs.Calls.{listOut, listOf}

@@ -5,7 +5,7 @@ use lib.Count.{ones}
 use Rattle.tables.specs.Choice.{pick, both, listed}
 use Rattle.tables.specs.Numbers.{numbersGood}
 use Rattle.tables.specs.Header.{headerGood}
-use Rattle.tables.specs.Keys.{firstAt, rises, holds}
+use Rattle.nodes.specs.Keys.{firstAt, rises, holds}
 use Rattle.damage.specs.Fields.{processGood, numbersGood as fieldsGood, nodesGood, recordsGood, usesGood}
 use Rattle.damage.specs.Helped.{helpedGood, recordGood}
 use Rattle.draws.specs.Draw.{leavesFrom, committed, replaceDrawn, pruneDrawn}

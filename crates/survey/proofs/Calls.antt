@@ -11,7 +11,7 @@ use lib.ListN.{length}
 use borrow.Author.Tests.{lt-ltb, le-ltb, eq-eqb, ne-eqb}
 use Rattle.tables.specs.Choice.{pick, Reason, reason, NoneHolds, none, nor, First, either}
 use Rattle.tables.specs.Numbers.{infinity}
-use Rattle.tables.specs.Keys.{holds}
+use Rattle.nodes.specs.Keys.{holds}
 use Rattle.tables.specs.Layout.{blockWords, overFront}
 use Rattle.tables.specs.Header.{headerOf, blockReasons}
 use Rattle.tables.specs.declared.header.Header.{Header}

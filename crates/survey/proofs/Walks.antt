@@ -11,11 +11,11 @@ use lib.ListN.{length, length-append}
 use borrow.Author.Tests.{lt-ltb, ne-eqb}
 use Rattle.tables.specs.Choice.{pick, listed}
 use Rattle.tables.specs.Layout.{tagWord, childWord}
-use Rattle.tables.specs.Node.{kinOf, childOf}
+use Rattle.nodes.specs.Node.{kinOf, childOf}
 use Rattle.tables.specs.declared.header.Header.{Header}
-use Rattle.tables.specs.declared.node.Kin.the-variants.{Leaf, Internal}
-use Rattle.tables.specs.declared.node.Child.{Child}
-use Rattle.tables.specs.declared.node.Child.the-variants.{Node}
+use Rattle.nodes.specs.declared.node.Kin.the-variants.{Leaf, Internal}
+use Rattle.nodes.specs.declared.node.Child.{Child}
+use Rattle.nodes.specs.declared.node.Child.the-variants.{Node}
 use Rattle.meter.specs.Walk.{Walk, walk, begin, spent, damaged, leafMet, inOrder, nodeMet, walkOf, walked}
 use Rattle.tables.proofs.Picks.{both-true}
 use Rattle.history.specs.View.{View, In, keys, Reach, top, by, Holds}

@@ -1,19 +1,15 @@
--- Numbers and words say what they stand for: refusals, pending words, and the order of refusals.
-use Prim.Native.Nat.{ℕ, zero, suc, _+_, _*_, _-_, _/_, _%_, _≤_, _<_}
+-- Numbers say what they stand for: refusals, and their order.
+use Prim.Native.Nat.{ℕ, _+_, _-_, _≤_}
 use mathlib.Core.Path.{_≡_, refl, sym, ap, _∙_}
 use mathlib.Core.Bool.{Bool, true, false}
 use mathlib.Core.List.{List, [], _∷_, _++_, map}
 use mathlib.Core.Logic.{_↔_}
 use native.Mathlib.Omega.{arith}
-use native.Mathlib.Nat.{mod-lt, div-add-mod, mul-add-div, mul-add-mod-self-left, div-eq-of-lt, mod-eq-of-lt}
 use lib.ListN.{List·getD-map}
 use Rattle.tables.specs.Choice.{pick, both, within, listed, Reason, decide, Verdict, refused, accepted, verdict, told, NoneHolds, none, nor, First}
 use Rattle.tables.specs.Refusal.{numberOf, refusals, refusal}
-use Rattle.tables.specs.Pending.{wordOf, pendingOfKind, pendingOf}
 use Rattle.tables.specs.declared.numbers.Refusal.{Refusal}
 use Rattle.tables.specs.declared.numbers.Refusal.the-variants.{MakingNumber, TooShort, Damaged, NoSuchProcess, UnknownOperation, InfinityGiven, Busy, Idle, ListTooShort, LowAboveHigh, NotInForm}
-use Rattle.tables.specs.declared.pending.Pending.{Pending}
-use Rattle.tables.specs.declared.pending.Pending.the-variants.{Clean, Replace, Prune, Mark}
 use Rattle.tables.specs.Header.{headerOf, blockReasons, headerRead}
 use Rattle.tables.specs.declared.header.HeaderRead.the-variants.{Good, Refused}
 use Rattle.tables.proofs.Picks.{both-1, both-2, within-low, within-high}
@@ -40,29 +36,6 @@ pub number-refusal : (n : ℕ) → 1 ≤ n → n ≤ 11 → numberOf (refusal n)
 number-refusal n p q =
     let e : 1 + (n - 1) ≡ n = omega arith in
     sym (List·getD-map numberOf refusals (n - 1) Damaged) ∙ rw in-order (getD-listed (λ i. i) 1 11 (n - 1) 3 (omega arith) ∙ e)
-
--- the two parts of a pending word
-kind-part : (r n : ℕ) → n < 4 → (4 * r + n) % 4 ≡ n
-kind-part r n p = mul-add-mod-self-left 4 r n ∙ mod-eq-of-lt p
-
-record-part : (r n : ℕ) → n < 4 → (4 * r + n) / 4 ≡ r
-record-part r n p = mul-add-div (omega arith) r n ∙ rw (div-eq-of-lt p) (omega arith)
-
-pub pending-word : (v : Pending) → pendingOf (wordOf v) ≡ v
-pending-word (Clean r) = rw (kind-part r 0 (omega arith), record-part r 0 (omega arith)) refl
-pending-word (Replace r) = rw (kind-part r 1 (omega arith), record-part r 1 (omega arith)) refl
-pending-word (Prune r) = rw (kind-part r 2 (omega arith), record-part r 2 (omega arith)) refl
-pending-word (Mark r) = rw (kind-part r 3 (omega arith), record-part r 3 (omega arith)) refl
-
-of-kind : (n r : ℕ) → n < 4 → wordOf (pendingOfKind n r) ≡ 4 * r + n
-of-kind zero r p = refl
-of-kind (suc zero) r p = refl
-of-kind (suc (suc zero)) r p = refl
-of-kind (suc (suc (suc zero))) r p = refl
-of-kind (suc (suc (suc (suc n)))) r p = absurd (omega arith)
-
-pub word-pending : (w : ℕ) → wordOf (pendingOf w) ≡ w
-word-pending w = of-kind (w % 4) (w / 4) (mod-lt w (omega arith)) ∙ div-add-mod w 4
 
 -- reasons that do not hold decide nothing
 module _ {A : Type 0} (refusing : ℕ → A) (accepting : A) where

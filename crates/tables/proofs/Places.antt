@@ -10,7 +10,6 @@ use lib.Seq.{sets, getD-set-same, getD-set-other}
 use Rattle.tables.specs.Numbers.{headerWords, nodeWords, recordWords}
 use Rattle.tables.specs.Layout.{blockWords, depthOf, nodeAt, recordAt, nodeWord, recordWord}
 use Rattle.tables.specs.Place.{Place, inHeader, inNode, inRecord, inStack, placeAt, OneOf, Inside}
-use Rattle.tables.specs.Node.{withNode}
 use Rattle.tables.specs.declared.header.Header.{Header}
 
 -- rows of w words: an address has one row and one word
@@ -222,10 +221,10 @@ module _ (h : Header) (b image : List ℕ) (n : ℕ) (long : length image ≡ no
   node-all : (o : ℕ) → o < length image → Inside h (inNode n o)
   node-all o p = record { from-one = low; to-last = high; within = rw long at p }
 
-  pub node-same : (o : ℕ) → o < nodeWords (h .k) → blockWords h ≤ length b → nodeWord (withNode b h n image) h n o ≡ getD image o 0
+  pub node-same : (o : ℕ) → o < nodeWords (h .k) → blockWords h ≤ length b → nodeWord (sets b (nodeAt h n 0) image) h n o ≡ getD image o 0
   node-same o p l = row-same h b image (nodeAt h n 0) (inNode n) (λ i. omega arith) node-all o (rw long p) l
 
-  pub node-other : (y : Place) → Inside h y → ((o : ℕ) → inNode n o ≡ y → ⊥) → getD (withNode b h n image) (placeAt h y) 0 ≡ getD b (placeAt h y) 0
+  pub node-other : (y : Place) → Inside h y → ((o : ℕ) → inNode n o ≡ y → ⊥) → getD (sets b (nodeAt h n 0) image) (placeAt h y) 0 ≡ getD b (placeAt h y) 0
   node-other y q d = row-other h b image (nodeAt h n 0) (inNode n) (λ i. omega arith) node-all y q d
 
 -- a whole record written

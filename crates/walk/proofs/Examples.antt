@@ -6,7 +6,7 @@ use lib.ListN.{set, replicate}
 use Rattle.tables.specs.Choice.{pick, both, listed}
 use Rattle.tables.specs.Numbers.{numbersGood}
 use Rattle.tables.specs.Header.{headerGood}
-use Rattle.tables.specs.Keys.{rises}
+use Rattle.nodes.specs.Keys.{rises}
 use Rattle.tables.specs.declared.numbers.Refusal.the-variants.{Damaged, InfinityGiven, ListTooShort, LowAboveHigh}
 use Rattle.meter.specs.Walk.{inOrder, walkOf}
 use Rattle.meter.specs.Measure.{anyWithin}

@@ -6,7 +6,7 @@ use native.Mathlib.Omega.{arith}
 use mathlib.Core.List.{[]}
 use lib.ListN.{length, getD}
 use Rattle.tables.specs.Choice.{listed}
-use Rattle.tables.specs.Keys.{keyArray}
+use Rattle.nodes.specs.Keys.{keyArray}
 use Rattle.draws.specs.Draw.{leavesFrom}
 use Rattle.draws.proofs.Laws.{leaves, leaves-start}
 use Rattle.draws.proofs.draw_leaves.Statement.{statement}

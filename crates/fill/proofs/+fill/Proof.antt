@@ -12,7 +12,7 @@ use borrow.Fn.PlainCycle.{Measures, is, falls, and}
 use Rattle.fill.proofs.fill.Reads as fill
 use Rattle.fill.proofs.fill.Kinds as fill-kinds
 use Rattle.fill.proofs.+fill.Lts-fill as fill-lts
-use Rattle.tables.proofs.node.child_of.Reads as child-of-reads
+use Rattle.nodes.proofs.node.child_of.Reads as child-of-reads
 use Rattle.fill.proofs.fill_leaf.Reads as fill-leaf-reads
 use Rattle.fill.proofs.spent.Reads as spent-reads
 use Rattle.fill.proofs.+fill.{statement}

@@ -3,7 +3,7 @@ use borrow.Author.Needs.{needs}
 use mathlib.Core.Path.{_≡_}
 use Prim.Native.Nat.{_≤_, _-_}
 use lib.Seq.{sets}
-use Rattle.tables.specs.Keys.{keysOf}
+use Rattle.nodes.specs.Keys.{keysOf}
 use Rattle.fill.proofs.Storing.{stored-none, stored-more, stored-all, stored-length}
 use Rattle.fill.proofs.store_keys.Statement.{statement}
 use Rattle.fill.proofs.store_keys.Tie as tie

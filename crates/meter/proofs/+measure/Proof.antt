@@ -11,7 +11,7 @@ use borrow.Fn.PlainCycle.{Measures, is, falls, and}
 use Rattle.meter.proofs.measure.Reads as measure
 use Rattle.meter.proofs.measure.Kinds as measure-kinds
 use Rattle.meter.proofs.+measure.Lts-measure as measure-lts
-use Rattle.tables.proofs.node.child_of.Reads as child-of-reads
+use Rattle.nodes.proofs.node.child_of.Reads as child-of-reads
 use Rattle.meter.proofs.damaged.Reads as damaged-reads
 use Rattle.meter.proofs.measure_leaf.Reads as measure-leaf-reads
 use Rattle.meter.proofs.spent.Reads as spent-reads

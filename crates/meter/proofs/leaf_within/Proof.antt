@@ -2,7 +2,7 @@
 use borrow.Author.Needs.{needs}
 use mathlib.Core.Path.{_≡_}
 use Prim.Native.Nat.{_≤_, _-_}
-use Rattle.tables.specs.Keys.{keysOf}
+use Rattle.nodes.specs.Keys.{keysOf}
 use Rattle.meter.specs.Measure.{anyWithin}
 use Rattle.meter.proofs.Measuring.{within-none, within-more, within-all}
 use Rattle.meter.proofs.leaf_within.Statement.{statement}

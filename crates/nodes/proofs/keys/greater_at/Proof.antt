@@ -1,0 +1,31 @@
+-- The proof that `keys::greater_at` keeps its contract.
+use borrow.Author.Needs.{needs}
+use mathlib.Core.Path.{_≡_}
+use Prim.Native.Nat.{_≤_, _-_, _+_}
+use lib.ListN.{drop}
+use Rattle.nodes.specs.Keys.{keysOf, greaterAt}
+use Rattle.nodes.proofs.Keyed.{greater-here, greater-on, greater-end, first-start}
+use Rattle.nodes.proofs.keys.greater_at.Statement.{statement}
+use Rattle.nodes.proofs.keys.greater_at.Tie as tie
+
+abbrev Inv-loop : tie.InvT-loop
+Inv-loop block h node count key n i₀ i = (i ≤ n) × (greaterAt key (keysOf block h node count) ≡ i + greaterAt key (drop i (keysOf block h node count)))
+
+abbrev μ-loop : tie.MeasureT-loop
+μ-loop block h node count key n i₀ i = n - i
+
+pub greater-at-spec : {M : Type 1} → statement M
+greater-at-spec =
+    tie.close
+    (tie.spec
+    Inv-loop
+    μ-loop
+    (λ c. search (needs, first-start))  -- loop-holds
+    (λ c. search needs)  -- add-key-word
+    (λ c κs. search needs)  -- key-word-requires
+    (λ c. search greater-here)  -- returns
+    (λ c. search needs)  -- add-i
+    (λ c. search needs)  -- loop-less
+    (λ c. (search needs, search greater-on))  -- loop-again
+    (λ c. search greater-end)  -- returns-2
+    )
