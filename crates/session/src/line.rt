@@ -1,7 +1,7 @@
 // What one line of the script does: the making line first, then starts, steps and listings.
 ghost use mathlib.Core.Path.{_≡_};
 ghost use Rattle.index.specs.Calls.{recordOf, stepOut};
-ghost use Rattle.session.specs.Line.{withinBench, begun, turnOf, did, done, endedBy, refusedBy, makingDone, firstDone, startDone, goesOn, stepsOf, stepsSaid, stepsDone, listDone, laterDone, lineDone, isOver, finished};
+ghost use Rattle.session.specs.Line.{withinBench, begun, turnOf, did, done, makingDone, firstDone, startDone, goesOn, stepsOf, stepsSaid, stepsDone, listDone, laterDone, lineDone, isOver, finished};
 ghost use Rattle.session.specs.declared.line.Said.the-variants.{Refused};
 ghost use Rattle.session.specs.declared.line.Stage.the-variants.{Ended, Made as MadeStage};
 use fresh::Made;
