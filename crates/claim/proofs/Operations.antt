@@ -17,8 +17,7 @@ use Rattle.process.specs.declared.Stepped.{Stepped}
 use Rattle.process.specs.Process.{startedAs}
 use Rattle.process.specs.Answer.{goingOn}
 use Rattle.points.specs.Rows.{rowOf}
-use Rattle.points.specs.declared.start.StartAnswer.{StartAnswer}
-use Rattle.points.specs.declared.start.StartAnswer.the-variants.{Accepted, Refused}
+use Rattle.points.specs.declared.start.StartAnswer.the-variants.{Accepted}
 use Rattle.index.specs.Calls.{StepOut}
 use Rattle.history.specs.View.{In}
 use Rattle.history.specs.Shared.{Desc, Shared, Stands, stands-replace, stands-prune}
@@ -30,15 +29,12 @@ use Rattle.link.proofs.Moments.{tables, Follows, already, afterwards, answers}
 use Rattle.link.proofs.Reached.{step-one, taken-own, taken-other, state-is}
 use Rattle.link.proofs.Stepping.{turn}
 use Rattle.link.proofs.Outcomes.{Outcome, nothing, begun, moved, outcome}
+use Rattle.link.proofs.Becoming.{accepts}
 use Rattle.link.proofs.Clauses.{Reached, good, step-at, grows, processes-at}
 use Rattle.link.proofs.Story.{Story, story}
 use Rattle.link.proofs.Answers.{answer-steps, Drawn}
-use Rattle.link.proofs.Origins.{comes}
+use Rattle.link.proofs.Origins.{NewAt, new-drawn, comes}
 use Rattle.link.proofs.Owners.{owned}
-
-accepts : (a : StartAnswer) → isAccepted a ≡ true → a ≡ Accepted
-accepts Accepted e = refl
-accepts (Refused x) e = let z : _≡_ {A = ℕ} 0 1 = cc in absurd (omega arith)
 
 pub start-same : (n n′ o o′ x x′ : ℕ) → start n o x ≡ start n′ o′ x′ → (n ≡ n′) × (o ≡ o′) × (x ≡ x′)
 start-same n n′ o o′ x x′ e = (cc, cc, cc)
@@ -132,7 +128,7 @@ module _ {s : State} {es : List Event} (reached : Reached s es) where
       (start-same n n (taken (W m) n .operation) o (taken (W m) n .key) x e .1, start-same n n (taken (W m) n .operation) o (taken (W m) n .key) x e .2)
 
   -- a record is drawn once
-  draw-once : (t t′ n n′ r : ℕ) → Draws s es t n r → Draws s es t′ n′ r → t ≡ t′
+  pub draw-once : (t t′ n n′ r : ℕ) → Draws s es t n r → Draws s es t′ n′ r → t ≡ t′
   draw-once t t′ n n′ r d d′ = go (decLt t t′) (decLt t′ t)
     where
       after : (a c x y : ℕ) → Draws s es a x r → Draws s es c y r → a < c → ⊥
@@ -152,14 +148,14 @@ module _ {s : State} {es : List Event} (reached : Reached s es) where
       let z : sinceAt s es (a .process) (a .when) ≡ sinceAt s es (b .process) (b .when) = ap (λ (y : ℕ). sinceAt s es y (a .when)) n ∙ ap (sinceAt s es (b .process)) t in
       omega (arith, a .busy .last, b .busy .last)
 
-  -- each record in use has one: the draw, and the start behind it
-  pub its-operation : (m r : ℕ) (u : In (S m .records) r) → BusyWith s es (comes reached m r u .when) (comes reached m r u .n) (story reached (comes reached m r u .when) (comes reached m r u .n) (comes reached m r u .place) (comes reached m r u .busy) .begin)
+  -- each record drawn since the beginning has one: the draw, and the start behind it
+  pub its-operation : (m r : ℕ) (u : NewAt s es m r) → BusyWith s es (comes reached m r u .when) (comes reached m r u .n) (story reached (comes reached m r u .when) (comes reached m r u .n) (comes reached m r u .place) (comes reached m r u .busy) .begin)
   its-operation m r u = record {
     last = story reached (comes reached m r u .when) (comes reached m r u .n) (comes reached m r u .place) (comes reached m r u .busy) .since;
     busy = comes reached m r u .busy;
   }
 
-  pub draws-it : (m r : ℕ) (u : In (S m .records) r) → Draws s es (comes reached m r u .when) (comes reached m r u .n) r
+  pub draws-it : (m r : ℕ) (u : NewAt s es m r) → Draws s es (comes reached m r u .when) (comes reached m r u .n) r
   draws-it m r u = record { event = comes reached m r u .event; next = sym (comes reached m r u .next); counted = comes reached m r u .counted }
 
   -- a draw leaves its process busy with the same operation
@@ -191,8 +187,8 @@ module _ {s : State} {es : List Event} (reached : Reached s es) where
   -- the record says whose it is
   draw-process : (t n r : ℕ) → Draws s es t n r → S (suc t) .rec r .process ≡ n
   draw-process t n r d =
-      let c = comes reached (suc t) r (used-new t n r d) in
-      let z : c .when ≡ t = draw-once (c .when) t (c .n) n r (draws-it (suc t) r (used-new t n r d)) d in
+      let c = comes reached (suc t) r (new-drawn reached t n r d) in
+      let z : c .when ≡ t = draw-once (c .when) t (c .n) n r (draws-it (suc t) r (new-drawn reached t n r d)) d in
       c .process ∙ step-one (c .n) n (sym (c .event) ∙ ap (eventAt es) z ∙ d .event)
 
   pub still-busy : (t n r i : ℕ) → Draws s es t n r → BusyWith s es t n i → BusyWith s es (suc t) n i
@@ -235,8 +231,8 @@ module _ {s : State} {es : List Event} (reached : Reached s es) where
 
           by : Follows (headerAt s es) (blockAt s es) (sinceAt s es p m) m p (turn (good reached m .now) (taken (W m) p) y .h′)
               (rowOf (blockAt s es m) (headerAt s es m) p (taken (W m) p) .block) (taken (W m) p) (rowOf (blockAt s es m) (headerAt s es m) p (taken (W m) p) .stepped) → taken (W (suc m)) p .operation ≡ 0
-          by (already q r fr a₁ a₂ a₃) = absurd (on q r)
-          by (afterwards q r fr a₁ a₂ a₃ a₄) = absurd (on q r)
+          by (already q r fr a₁ a₂ a₃ a₄) = absurd (on q r)
+          by (afterwards q r fr a₁ a₂ a₃ a₄ a₅) = absurd (on q r)
           by (answers d r fr a₁) = ap (λ (q : Process). q .operation) own ∙ ap (λ (o : Stepped). o .process .operation) r
 
   -- an idle process stays idle until its next accepted start

@@ -5,6 +5,7 @@ use Rattle.process.specs.declared.Answer.the-variants.{Yes}
 use Rattle.link.specs.Events.{Event, State}
 use Rattle.link.specs.Operations.{Started, BusyWith, Answered}
 use Rattle.claim.specs.Claim.{SwapOf}
+use Rattle.claim.specs.Kept.{Deleted}
 
 -- an insert of x, started by event i, is answered yes before moment m
 pub record PutIn (s : State) (es : List Event) (m i x : ℕ) : Type 0 where
@@ -15,13 +16,6 @@ pub record PutIn (s : State) (es : List Event) (m i x : ℕ) : Type 0 where
   pub busy : BusyWith s es answer n i
   pub answered : Answered s es answer n Yes count
   pub before : answer < m
-
--- event m is the swap of a delete of x
-pub record Deleted (s : State) (es : List Event) (m x : ℕ) : Type 0 where
-  pub delete : ℕ
-  pub n : ℕ
-  pub started : Started s es delete n 3 x
-  pub swap : SwapOf s es m delete
 
 -- its swap, and the swap of a delete of x after it and before moment m
 pub record TakenOut (s : State) (es : List Event) (m i x : ℕ) : Type 0 where

@@ -23,7 +23,7 @@ pub mod SwapReplace
 pub mod SwapPrune
 pub mod Draws
 pub mod Keep
-pub mod Rest
+pub mod Fresh
 -- what a change does: to the set, to child words, to records
 pub mod SetLaws
 pub mod ChildWords
@@ -34,6 +34,7 @@ pub mod Quiet
 pub mod Runs
 pub mod SearchPath
 pub mod Swapping
+pub mod Newer
 -- what a walk meets
 pub mod Walking
 -- what a process remembers, and knows at each point

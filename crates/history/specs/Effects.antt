@@ -36,14 +36,27 @@ module _ (k : ℕ) where
   swaps (swap-prune r i other h kd mk j sj ej full d s e w same) = r
   swaps (unflag-prune r h kd e d w same) = 0
 
--- one child word, of a node in use, is another now; every other is as it was
-pub record Moved (k : ℕ) (S S′ : Shared) : Type 0 where
-  pub node : ℕ
-  pub index : ℕ
+-- child `index` of a node in use was `from` and is `to`, another one; every other child word of a node in use is as it was
+pub record Moved (k : ℕ) (S S′ : Shared) (node index from to : ℕ) : Type 0 where
   pub used : In (S .nodes) node
   pub index-in : In k index
-  pub other-word : S′ .view .child node index ≢ S .view .child node index
+  pub was : S .view .child node index ≡ from
+  pub is : S′ .view .child node index ≡ to
+  pub another : from ≢ to
   pub rest-same : (n j : ℕ) → In (S .nodes) n → In k j → ¬ ((n ≡ node) × (j ≡ index)) → S′ .view .child n j ≡ S .view .child n j
+
+-- "noting the non-empty child that isn't l": a child of p
+pub record Noted (k : ℕ) (S : Shared) (d : Desc) (other : ℕ) : Type 0 where
+  pub index : ℕ
+  pub index-in : In k index
+  pub child : S .view .child (d .p) index ≡ other
+  pub non-empty : S .view .tag other ≢ 0
+  pub not-l : other ≢ d .l
+
+-- the one word that record d names is swapped: child i of p from l to the new child, or child i of gp from p to the noted node
+pub data Swapped (k : ℕ) (S S′ : Shared) (d : Desc) (index other : ℕ) : Type 0 where
+  new-child : d .kind ≡ 1 → Moved k S S′ (d .p) index (d .l) (d .third) → Swapped k S S′ d index other
+  noted-node : d .kind ≡ 2 → Noted k S d other → Moved k S S′ (d .third) index (d .p) other → Swapped k S S′ d index other
 
 -- tags and keys of nodes in use and all words of records in use never change; the used counts never fall
 pub record Grown (S S′ : Shared) : Type 0 where

@@ -31,7 +31,7 @@ use Rattle.link.proofs.Stepping.{turn, step-sound}
 use Rattle.link.proofs.Calls as calls
 use Rattle.link.proofs.Calls.{stepRefusedIn}
 use Rattle.link.proofs.Reached.{at-work}
-use Rattle.link.proofs.Clauses.{Reached, good, k-at, hk, run, sound, sound₀, stepped-says, swap-at, swap-event, swaps-once}
+use Rattle.link.proofs.Clauses.{Reached, good, k-at, hk, run, sound, sound₀, stepped-says, swap-at, swap-event}
 use Rattle.link.proofs.Story.{Story, story, capped-up, steps-next}
 
 -- what is known then
@@ -175,7 +175,7 @@ module _ {s : State} {es : List Event} (reached : Reached s es) where
         go (did x z u b d f g) = let v : Yes ≡ No = sym z ∙ e in let y : _≡_ {A = ℕ} 0 1 = cc in absurd (omega arith)
 
   -- a record that has failed has no child swap, at any event
-  never-swaps : (m r t : ℕ) → In (S m .records) r → Failed (S m .view) (S m .rec r) r → ¬ ChildSwap s es t r
+  pub never-swaps : (m r t : ℕ) → In (S m .records) r → Failed (S m .view) (S m .rec r) r → ¬ ChildSwap s es t r
   never-swaps m r t u f w = go (decLt t m)
     where
       go : Dec (t < m) → ⊥
@@ -230,18 +230,3 @@ module _ {s : State} {es : List Event} (reached : Reached s es) where
         go (not-there x z u w) = none u
         go (no-room x z u) = none u
         go (did x z u b f g y) = absurd (e z)
-
-  -- at most one child swap for each operation, whoever did it
-  pub one-each : (m n : ℕ) → In (headerAt s es m .processes) n → taken (W m) n .operation ≢ 0 → (r r′ t t′ : ℕ) → Drawn s es (sinceAt s es n m) m n r
-      → Drawn s es (sinceAt s es n m) m n r′ → ChildSwap s es t r → ChildSwap s es t′ r′ → (r ≡ r′) × (t ≡ t′)
-  one-each m n u o r r′ t t′ d d′ w w′ = (same, swaps-once reached t t′ r w (subst (λ (x : ℕ). ChildSwap s es t′ x) (sym same) w′))
-    where
-      is-own : (x y : ℕ) → Drawn s es (sinceAt s es n m) m n x → ChildSwap s es y x → x ≡ taken (W m) n .own
-      is-own x y v z = by (story reached m n u o .past x (v .used) (v .late) (v .process))
-        where
-          by : (x ≡ taken (W m) n .own) ⊎ Failed (S m .view) (S m .rec x) x → x ≡ taken (W m) n .own
-          by (inl e) = e
-          by (inr f) = absurd (never-swaps m x y (v .used) f z)
-
-      same : r ≡ r′
-      same = is-own r t d w ∙ sym (is-own r′ t′ d′ w′)

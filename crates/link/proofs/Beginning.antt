@@ -1,4 +1,4 @@
--- Where lists of events begin: a state at rest, and the fresh tree, which is one.
+-- Where lists of events begin: a settled state; the fresh tree is one.
 use Prim.Native.Nat.{ℕ, zero, suc, _+_, _*_, _-_, _≤_, _<_}
 use mathlib.Core.Path.{_≡_, refl, sym, ap, _∙_, subst}
 use mathlib.Core.Bool.{true}
@@ -21,30 +21,36 @@ use Rattle.tables.proofs.Places.{place-below}
 use Rattle.process.specs.declared.Process.{Process}
 use Rattle.process.specs.Process.{idle}
 use Rattle.history.specs.View.{In}
+use Rattle.history.specs.Shared.{Stands}
 use Rattle.history.specs.Fresh.{Fresh}
 use Rattle.history.proofs.Alone.{alone-at}
-use Rattle.history.proofs.Rest.{Rest, rest-sound, fresh-rest}
+use Rattle.history.proofs.Invariant.{Sound}
+use Rattle.history.proofs.Fresh.{fresh-empty, fresh-sound}
 use Rattle.link.specs.Tables.{tablesOf}
 use Rattle.link.specs.Events.{Event, State, taken, stateAt, freshState}
+use Rattle.link.specs.Sets.{Has}
 use Rattle.link.proofs.Writes.{Fit}
 use Rattle.link.proofs.Images.{image-tag, image-key, image-child, image-pend}
 use Rattle.link.proofs.Reached.{Good, idles}
 
--- a state at rest: all idle, no record in use, all pendings 0, shape, one parent, search order
-pub record Rested (s : State) : Type 0 where
+-- a settled state: all processes idle, sound tables, and no record that stands. (Records may be in use, and name any process.)
+pub record Settled (s : State) : Type 0 where
   pub fit : Fit (headerOf (s .block)) (s .block)
   pub rows : headerOf (s .block) .processes ≤ length (s .row)
   pub idle-all : (n : ℕ) → In (headerOf (s .block) .processes) n → taken s n .operation ≡ 0
-  pub rest : Rest (headerOf (s .block) .k) (tablesOf (headerOf (s .block)) (s .block))
+  pub sound : Sound (headerOf (s .block) .k) (tablesOf (headerOf (s .block)) (s .block))
+  pub none-stands : (r : ℕ) → In (headerOf (s .block) .recordsused) r
+      → ¬ Stands (tablesOf (headerOf (s .block)) (s .block) .view) (tablesOf (headerOf (s .block)) (s .block) .rec r) r
 
-pub good-rest : {s : State} (es : List Event) → Rested s → Good s es 0
+pub good-settled : {s : State} (es : List Event) → Settled s → Good s es 0
 unfolding stateAt
-good-rest {s} es r = record {
+good-settled {s} es r = record {
   now = record {
     fit = r .fit;
     run = record { step = λ i l. absurd (omega arith) };
-    first = rest-sound (r .rest);
-    owners = λ q u. absurd (omega (arith, u .low, u .high, r .rest .no-record));
+    first = r .sound;
+    none-stood = r .none-stands;
+    owners = λ q l u. absurd (omega arith);
   };
   rows = r .rows;
   each = λ n u. idles (r .idle-all n u);
@@ -165,12 +171,17 @@ module _ (k processes nodes records : ℕ) (good : numbersGood (kStored k) proce
           (dummy-word (pendingPlace (h .k)) (omega arith) ∙ image-pend (h .k) (h .k) (replicate (h .k - 1) infinity) (h .k + 2) 0 (omega (arith, lim)))
       quiet n s (no e) (no d) = leaf-word n (pendingPlace (h .k)) (omega (arith, s)) (omega (arith, s, lim)) (omega arith)
 
-  pub fresh-rested : (row : List Process) → processes ≤ length row → Rested (freshState k processes nodes records b row)
-  fresh-rested row l = record {
+  -- "The set" of it is empty
+  pub fresh-none : (x : ℕ) → ¬ Has B x
+  fresh-none x = fresh-empty (lim .k-low) fresh x
+
+  pub fresh-settled : (row : List Process) → processes ≤ length row → Settled (freshState k processes nodes records b row)
+  fresh-settled row l = record {
     fit = fit;
     rows = rw (length-append (replicate processes idle) (drop (length (replicate processes idle)) row), length-replicate {A = Process}) (omega arith);
     idle-all = λ n u. ap (λ (q : Process). q .operation) (at n u);
-    rest = fresh-rest (lim .k-low) fresh;
+    sound = fresh-sound (lim .k-low) fresh;
+    none-stands = λ r u. absurd (omega (arith, u .low, u .high, fresh .no-record));
   }
     where
       at : (n : ℕ) → In processes n → getD (replicate processes idle ++ drop (length (replicate processes idle)) row) (n - 1) idle ≡ idle

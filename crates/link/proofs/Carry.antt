@@ -17,7 +17,7 @@ use Rattle.history.proofs.Lasting.{grown}
 use Rattle.history.proofs.Runs.{run-more}
 use Rattle.history.proofs.Knows.{Mind, KnowsAt, Serves, stays-at}
 use Rattle.link.specs.Tables.{stackOf}
-use Rattle.link.proofs.Minds.{mindWith, mindOf, HeldBy, CountersBy, held-more}
+use Rattle.link.proofs.Minds.{mindWith, mindOf, HeldBy, NewerBy, newer-same, CountersBy, held-more}
 use Rattle.link.proofs.Moments.{tables, Now, Busy, Follows, already, afterwards, answers, Shift, k-low, now-sound}
 
 module _ {hs : ℕ → Header} {bs : ℕ → List ℕ} {j : ℕ} {h′ : Header} {b′ : List ℕ} (eh : hs (suc j) ≡ h′) (eb : bs (suc j) ≡ b′) where
@@ -53,6 +53,7 @@ module _ {hs : ℕ → Header} {bs : ℕ → List ℕ} {j n : ℕ} (now : Now hs
     fit = sh .fit′;
     run = subst (λ (x : ℕ). Run x S (suc j)) (sym (sh .k-same)) (run-more (now .run) (sh .step));
     first = subst (λ (x : ℕ). Sound x (S 0)) (sym (sh .k-same)) (now .first);
+    none-stood = now .none-stood;
     owners = sh .owners′;
   }
 
@@ -63,12 +64,13 @@ module _ {hs : ℕ → Header} {bs : ℕ → List ℕ} {j n : ℕ} (now : Now hs
   held-next q w = subst (λ (x : ℕ). HeldBy x (S (suc j)) q) (sym (sh .k-same)) (held-more (grown (k-low now) (now-sound now) (sh .step)) w)
 
   -- what a process knows at the next moment, by the k of that moment
-  busy-at : {i p : ℕ} (q : Process) → i ≤ j → In (hs j .processes) p → HeldBy (hs (suc j) .k) (S (suc j)) q → CountersBy k q
-      → KnowsAt k S i (suc j) (mindOf (hs (suc j)) (bs (suc j)) p q) (q .point) → Busy hs bs i (suc j) p q
-  busy-at {i} {p} q l u w c z = record {
+  busy-at : {i p : ℕ} (q : Process) → i ≤ j → In (hs j .processes) p → HeldBy (hs (suc j) .k) (S (suc j)) q → NewerBy (hs 0 .recordsused) (stackOf (hs (suc j)) (bs (suc j)) p) q
+      → CountersBy k q → KnowsAt k S i (suc j) (mindOf (hs (suc j)) (bs (suc j)) p q) (q .point) → Busy hs bs i (suc j) p q
+  busy-at {i} {p} q l u w v c z = record {
     since = omega arith;
     place = subst (λ (x : ℕ). In x p) (sym (sh .processes-same)) u;
     held = w;
+    newer = v;
     counters = subst (λ (x : ℕ). CountersBy x q) (sym (sh .k-same)) c;
     knows = subst (λ (x : ℕ). KnowsAt x S i (suc j) (mindOf (hs (suc j)) (bs (suc j)) p q) (q .point)) (sym (sh .k-same)) z;
   }
@@ -76,18 +78,19 @@ module _ {hs : ℕ → Header} {bs : ℕ → List ℕ} {j n : ℕ} (now : Now hs
   -- whoever did not move
   pub busy-next : {i p : ℕ} (q : Process) → p ≢ n → Busy hs bs i j p q → Busy hs bs i (suc j) p q
   busy-next {i} {p} q d y =
-      busy-at q (y .since) (y .place) (held-next q (y .held)) (y .counters)
+      busy-at q (y .since) (y .place) (held-next q (y .held))
+      (newer-same (sh .stacks p (y .place) d) (y .newer)) (y .counters)
       (subst (λ (M : Mind). KnowsAt k S i (suc j) M (q .point)) (sym (mind-same (hs j) (hs (suc j)) (bs j) (bs (suc j)) p q (sh .stacks p (y .place) d)))
       (stays-at S i j (mindOf (hs j) (bs j) p q) (k-low now) (now-sound now) (sh .step) (q .point) (y .knows)))
 
   -- the one that did
   pub busy-own : {i : ℕ} (q : Process) (s : Stepped) → i ≤ j → In (hs j .processes) n → Follows hs bs i j n (hs (suc j)) (bs (suc j)) q s
       → Busy hs bs i (suc j) n (s .process) ⊎ (s .process ≡ idle)
-  busy-own {i} q s l u (already q′ e fr w c z) =
-      inl (subst (λ (x : Stepped). Busy hs bs i (suc j) n (x .process)) (sym e) (busy-at (withSteps q′ (stepsUp (q′ .steps))) l u (held-next q′ w) c
+  busy-own {i} q s l u (already q′ e fr w v c z) =
+      inl (subst (λ (x : Stepped). Busy hs bs i (suc j) n (x .process)) (sym e) (busy-at (withSteps q′ (stepsUp (q′ .steps))) l u (held-next q′ w) v c
       (stays-at S i j (mindOf (hs (suc j)) (bs (suc j)) n q′) (k-low now) (now-sound now) (sh .step) (q′ .point) z)))
-  busy-own {i} q s l u (afterwards q′ e fr w c m z) =
+  busy-own {i} q s l u (afterwards q′ e fr w v c m z) =
       inl (subst (λ (x : Stepped). Busy hs bs i (suc j) n (x .process)) (sym e) (busy-at (withSteps q′ (stepsUp (q′ .steps))) l u
-      (subst (λ (x : ℕ). HeldBy x (S (suc j)) q′) (sym (sh .k-same)) w) c
+      (subst (λ (x : ℕ). HeldBy x (S (suc j)) q′) (sym (sh .k-same)) w) v c
       (knows-serves S i (suc j) (mindOf (hs (suc j)) (bs (suc j)) n q′) (q′ .point) m z)))
   busy-own q s l u (answers a e fr w) = inr (ap (λ (x : Stepped). x .process) e)

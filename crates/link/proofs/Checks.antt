@@ -20,7 +20,7 @@ use Rattle.nodes.proofs.Written.{pending-word}
 use Rattle.tables.proofs.Picks.{both-is}
 use Rattle.damage.specs.Helped.{ownerGood, expectedGood, recordGood}
 use Rattle.history.specs.View.{In}
-use Rattle.history.specs.Shared.{Shared}
+use Rattle.history.specs.Shared.{Desc, Shared}
 use Rattle.history.proofs.Invariant.{Word, clean, replacing, pruning, marked, Made, put, out, sprouted, Sound}
 use Rattle.history.proofs.Touch.{p-used, gp-used, new-used}
 use Rattle.history.proofs.Static.{origin-used}
@@ -36,6 +36,13 @@ Names s (Clean r) = r ≤ s .records
 Names s (Replace r) = In (s .records) r × (s .rec r .kind ≡ 1)
 Names s (Prune r) = In (s .records) r × (s .rec r .kind ≡ 2)
 Names s (Mark r) = In (s .records) r × (s .rec r .kind ≡ 2)
+
+-- it names no record up to f, unless it is clean
+abbrev pub Late : ℕ → Pending → Type 0
+Late f (Clean r) = 0 ≤ r
+Late f (Replace r) = f < r
+Late f (Prune r) = f < r
+Late f (Mark r) = f < r
 
 pending-is : (v : Pending) (w : ℕ) → w ≡ wordOf v → pendingOf w ≡ v
 pending-is v w e = ap pendingOf e ∙ pending-word v
@@ -57,6 +64,12 @@ word-names s {n} {w} (clean c e o) = rw (clean-is w c e) (origin-used o)
 word-names s {n} {w} (replacing r e i d f) = rw (replace-is w r e) (i, d)
 word-names s {n} {w} (pruning r e i d f) = rw (prune-is w r e) (i, d)
 word-names s {n} {w} (marked r e i d f) = rw (mark-is w r e) (i, d)
+
+pub word-late : (f : ℕ) {m n w : ℕ} {T : ℕ → Desc} → Word m T n w → ((r kind : ℕ) → 1 ≤ kind → kind ≤ 3 → w ≡ 4 * r + kind → f < r) → Late f (pendingOf w)
+word-late f {m} {n} {w} (clean c e o) g = rw (clean-is w c e) (omega arith)
+word-late f {m} {n} {w} (replacing r e i d p) g = rw (replace-is w r e) (g r 1 (omega arith) (omega arith) e)
+word-late f {m} {n} {w} (pruning r e i d p) g = rw (prune-is w r e) (g r 2 (omega arith) (omega arith) e)
+word-late f {m} {n} {w} (marked r e i d p) g = rw (mark-is w r e) (g r 3 (omega arith) (omega arith) e)
 
 module _ (b : List ℕ) (h : Header) where
   good-tag : (n : ℕ) → In (h .nodesused) n → tagWord b h n ≤ h .k → both (within 1 n (h .nodesused)) (leb (tagWord b h n) (h .k)) ≡ true

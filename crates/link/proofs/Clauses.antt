@@ -1,9 +1,10 @@
--- Over all lists of events from a state at rest: never damaged, search order, and what changes child words and the set.
-use Prim.Native.Nat.{ℕ, zero, suc, _+_, _≤_}
-use mathlib.Core.Path.{_≡_, refl, sym, ap, _∙_, subst}
+-- Over all lists of events from a settled state: never damaged, search order, and what changes child words and the set.
+use Prim.Native.Nat.{ℕ, suc, _+_, _≤_}
+use mathlib.Core.Path.{_≡_, sym, ap, _∙_, subst}
 use mathlib.Core.Logic.{_≢_, _⊎_, inl, inr}
 use mathlib.Core.List.{List, List·Memᴰ}
 use native.Mathlib.Omega.{arith}
+use lib.ListN.{length}
 use Rattle.tables.specs.Refusal.{numberOf, refusal}
 use Rattle.tables.specs.declared.header.Header.{Header}
 use Rattle.tables.specs.declared.numbers.Refusal.{Refusal}
@@ -19,11 +20,11 @@ use Rattle.points.proofs.Refusals.{one-step, one-start}
 use Rattle.index.specs.Calls.{StartOut, StepOut}
 use Rattle.history.specs.View.{In, route, keys, Reach, Below}
 use Rattle.history.specs.Shared.{Shared}
-use Rattle.history.specs.Effects.{SameSet, SetMoves, Grown, Moved}
+use Rattle.history.specs.Effects.{SameSet, SetMoves, Grown, Swapped}
 use Rattle.history.specs.Run.{Step, Run, SwapAt, step-swaps}
 use Rattle.history.proofs.Invariant.{Sound}
 use Rattle.history.proofs.SearchOrder.{figure-3}
-use Rattle.history.proofs.ChildWords.{kids-same, swap-moves}
+use Rattle.history.proofs.ChildWords.{kids-same}
 use Rattle.history.proofs.SetLaws.{step-set-same, step-set-swap}
 use Rattle.history.proofs.Runs.{sound-at, grown-at}
 use Rattle.history.proofs.Swapping.{SwapBetween, one-swap}
@@ -33,19 +34,20 @@ use Rattle.link.specs.Operations.{NoStep, step-of-none, step-of-idle, No
 use Rattle.link.proofs.Moments.{tables, Why, Follows, already, afterwards, answers, k-low}
 use Rattle.link.proofs.Stepping.{turn, step-sound}
 use Rattle.link.proofs.Calls as calls
+use Rattle.link.proofs.Constants.{constant}
 use Rattle.link.proofs.Reached.{Good, at-work, step-one, Kind, no-swap, swap-of, move, good-always}
-use Rattle.link.proofs.Beginning.{Rested, good-rest}
+use Rattle.link.proofs.Beginning.{Settled, good-settled}
 
 -- a step of a busy process goes on or ends
 pub stepped-says : {hs : ℕ → Header} {bs : ℕ → List ℕ} {i j n : ℕ} {h′ : Header} {b′ : List ℕ} {q : Process} {s : Stepped} → Follows hs bs i j n h′ b′ q s
     → (s .answer ≡ GoesOn) ⊎ ((a : Answer) × (s .answer ≡ Ended a (stepsUp (q .steps))) × Why (hs j .k) (tables hs bs) i j n q a)
-stepped-says (already q′ e fr x y z) = inl (ap (λ (t : Stepped). t .answer) e)
-stepped-says (afterwards q′ e fr x y l z) = inl (ap (λ (t : Stepped). t .answer) e)
+stepped-says (already q′ e fr x v y z) = inl (ap (λ (t : Stepped). t .answer) e)
+stepped-says (afterwards q′ e fr x v y l z) = inl (ap (λ (t : Stepped). t .answer) e)
 stepped-says (answers a e fr w) = inr (a, ap (λ (t : Stepped). t .answer) e, w)
 
--- a state at rest, then events whose keys are words of 32 bits
+-- a settled state, then events whose keys are words of 32 bits
 pub record Reached (s : State) (es : List Event) : Type 0 where
-  pub rest : Rested s
+  pub settled : Settled s
   pub proper : (m : ℕ) → Proper (eventAt es m)
 
 module _ {s : State} {es : List Event} (reached : Reached s es) where
@@ -65,15 +67,32 @@ module _ {s : State} {es : List Event} (reached : Reached s es) where
   k = headerAt s es 0 .k
 
   pub good : (m : ℕ) → Good s es m
-  good m = good-always (good-rest es (reached .rest)) (reached .proper) m
+  good m = good-always (good-settled es (reached .settled)) (reached .proper) m
 
+  -- k, the processes, the limits and the lengths of block and row are those of the beginning
   pub k-at : (m : ℕ) → hs m .k ≡ k
-  k-at zero = refl
-  k-at (suc m) = move (good m) .k-same ∙ k-at m
+  unfolding stateAt
+  k-at m = constant s es m .k
 
   pub processes-at : (m : ℕ) → hs m .processes ≡ hs 0 .processes
-  processes-at zero = refl
-  processes-at (suc m) = move (good m) .processes-same ∙ processes-at m
+  unfolding stateAt
+  processes-at m = constant s es m .processes
+
+  pub nodes-at : (m : ℕ) → hs m .nodes ≡ hs 0 .nodes
+  unfolding stateAt
+  nodes-at m = constant s es m .nodes
+
+  pub records-at : (m : ℕ) → hs m .records ≡ hs 0 .records
+  unfolding stateAt
+  records-at m = constant s es m .records
+
+  pub words-at : (m : ℕ) → length (bs m) ≡ length (bs 0)
+  unfolding stateAt
+  words-at m = constant s es m .words
+
+  pub rows-at : (m : ℕ) → length (W m .row) ≡ length (W 0 .row)
+  unfolding stateAt
+  rows-at m = constant s es m .rows
 
   -- the step from moment m, with the k of the whole run
   moves : (m : ℕ) → (c : Step k (S m) (S (suc m))) × Kind s es m k c
@@ -139,7 +158,7 @@ module _ {s : State} {es : List Event} (reached : Reached s es) where
     where
       go : Kind s es m k (moves m .0) → S (suc m) .view .child n j ≡ S m .view .child n j
       go (no-swap e d) = kids-same hk (sound m) (moves m .0) e n j u i
-      go (swap-of r l w e) = absurd (f r w)
+      go (swap-of r l w e z) = absurd (f r w)
 
   -- the record of a child swap is the one of the step
   swap-is : (m r : ℕ) → ChildSwap s es m r → (step-swaps k (moves m .0) ≡ r) × (1 ≤ r)
@@ -147,13 +166,22 @@ module _ {s : State} {es : List Event} (reached : Reached s es) where
     where
       go : Kind s es m k (moves m .0) → (step-swaps k (moves m .0) ≡ r) × (1 ≤ r)
       go (no-swap e d) = absurd (d r w)
-      go (swap-of x l v e) =
+      go (swap-of x l v e g) =
           let z : v .process ≡ w .process = step-one (v .process) (w .process) (sym (v .event) ∙ w .event) in
           let a : x ≡ r = sym (v .helps) ∙ ap (λ (p : ℕ). taken (W m) p .helped) z ∙ w .helps in
           (e ∙ a, omega arith)
 
-  pub swap-changes : (m r : ℕ) → ChildSwap s es m r → Moved k (S m) (S (suc m))
-  swap-changes m r w = let z = swap-is m r w in swap-moves hk (sound m) (moves m .0) (omega (arith, z .0, z .1))
+  -- the one word that the record names, by the index and the noted node of the process that swaps
+  pub swap-changes : (m r : ℕ) (w : ChildSwap s es m r) → Swapped k (S m) (S (suc m)) (S m .rec r) (taken (W m) (w .process) .index) (taken (W m) (w .process) .other)
+  swap-changes m r w = go (moves m .1)
+    where
+      go : Kind s es m k (moves m .0) → Swapped k (S m) (S (suc m)) (S m .rec r) (taken (W m) (w .process) .index) (taken (W m) (w .process) .other)
+      go (no-swap e d) = absurd (d r w)
+      go (swap-of x l v e g) =
+          let z : v .process ≡ w .process = step-one (v .process) (w .process) (sym (v .event) ∙ w .event) in
+          let a : x ≡ r = sym (v .helps) ∙ ap (λ (p : ℕ). taken (W m) p .helped) z ∙ w .helps in
+          subst (λ (p : ℕ). Swapped k (S m) (S (suc m)) (S m .rec r) (taken (W m) p .index) (taken (W m) p .other)) z
+          (subst (λ (y : ℕ). Swapped k (S m) (S (suc m)) (S m .rec y) (taken (W m) (v .process) .index) (taken (W m) (v .process) .other)) a g)
 
   -- the set changes only at a child swap, and by the key of its record: put in by an insert, taken out by a delete
   pub set-stays : (m : ℕ) → ((r : ℕ) → ¬ ChildSwap s es m r) → SameSet k (S m .view) (S (suc m) .view)
@@ -161,7 +189,7 @@ module _ {s : State} {es : List Event} (reached : Reached s es) where
     where
       go : Kind s es m k (moves m .0) → SameSet k (S m .view) (S (suc m) .view)
       go (no-swap e d) = step-set-same hk (sound m) (moves m .0) e
-      go (swap-of r l w e) = absurd (f r w)
+      go (swap-of r l w e z) = absurd (f r w)
 
   pub set-changes : (m r : ℕ) → ChildSwap s es m r → SetMoves k (S m .view) (S (suc m) .view) (S m .rec r)
   set-changes m r w = let z = swap-is m r w in step-set-swap hk (sound m) (moves m .0) r (z .0) (z .1)
@@ -176,7 +204,7 @@ module _ {s : State} {es : List Event} (reached : Reached s es) where
     where
       go : Kind s es (w .when) k (moves (w .when) .0) → ChildSwap s es (w .when) r
       go (no-swap e d) = absurd (omega (arith, w .is, e))
-      go (swap-of x a v e) = subst (λ (y : ℕ). ChildSwap s es (w .when) y) (sym e ∙ w .is) v
+      go (swap-of x a v e g) = subst (λ (y : ℕ). ChildSwap s es (w .when) y) (sym e ∙ w .is) v
 
   -- each record has at most one
   pub swaps-once : (m m′ r : ℕ) → ChildSwap s es m r → ChildSwap s es m′ r → m ≡ m′

@@ -36,7 +36,7 @@ use Rattle.history.proofs.Knows.{Mind, Owns, none-yet, owns, Serves, own-done}
 use Rattle.link.specs.Tables.{viewOf, tablesOf, stackOf}
 use Rattle.link.proofs.Writes.{Writes, writes-none, writes-node, writes-stack, writes-tables, pend-swap, tables-same, stack-same, stack-over-node, stack-over-stack}
 use Rattle.link.proofs.Checks.{word-names, pending-good, kind-good}
-use Rattle.link.proofs.Minds.{no-find, mindOf, stack-room}
+use Rattle.link.proofs.Minds.{newer-same, newer-stack, no-find, mindOf, stack-room}
 use Rattle.link.proofs.Moments.{tables, Now, Busy, did, Follows, answers, nobody, Turn, now-sound, quiet, restarts}
 use Rattle.link.proofs.Seeing.{counters-help, Loose, free, below as at-bottom, owns-loose, to-top}
 use Rattle.link.proofs.Searching.{known}
@@ -115,7 +115,7 @@ module _ {hs : ℕ → Header} {bs : ℕ → List ℕ} {i j n : ℕ} (now : Now 
         go (yes e) = rw (eq-eqb (q .depth) 0 e) (empty e (eqb (q .own) 0) refl)
         go (no e) =
             rw (ne-eqb (q .depth) 0 e)
-            (to-top n now q q b′ (topOf b h n q) (y .since) (y .counters) (y .held) (no-find (y .counters) (omega arith)) (subst (λ (f : ℕ → ℕ). Stacked k (S j) f (q .depth)) (sym same) (w .stacked))
+            (to-top n now q q b′ (topOf b h n q) (y .since) (y .counters) (y .held) (newer-same same (y .newer)) (no-find (y .counters) (omega arith)) (subst (λ (f : ℕ → ℕ). Stacked k (S j) f (q .depth)) (sym same) (w .stacked))
             (subst (λ (f : ℕ → ℕ). Loose (S j) n (q .operation) (q .key) (q .depth) (q .own) f) (sym same) (owns-loose mind (omega arith) (w .own)))
             (λ d x. top-is d x ∙ ap (λ (f : ℕ → ℕ). f d) (sym same)) refl (λ z. absurd (e z)) (q .depth - 1) (more e))
 
@@ -275,7 +275,7 @@ module _ {hs : ℕ → Header} {bs : ℕ → List ℕ} {i j n : ℕ} (now : Now 
               rw (ne-eqb d₁ 0 e)
               (to-top n now q (withDepth q d₁) (popped c) (underTop b h n q) (y .since)
               (rw e₁₀ (counters-help 10 (q .index) d₁ (q .own) (y .counters) (no-find (y .counters) (omega arith)) (omega arith) (omega arith) (y .counters .index-high) (λ z. absurd (omega arith)) (λ z x. absurd (omega arith)) (λ z. omega arith)))
-              (y .held) (no-find (y .counters) (omega arith)) st (loose e (w₁₀ .own)) top refl (λ z. absurd (e z)) (d₁ - 1) (more e))
+              (y .held) (newer-stack (λ d l. rw (below d l) (y .newer .stack-late d (omega arith))) (y .newer)) (no-find (y .counters) (omega arith)) st (loose e (w₁₀ .own)) top refl (λ z. absurd (e z)) (d₁ - 1) (more e))
 
     pop-sound : both (seenGood b h (touch10 b h q)) (popGood b h n q (underTop b h n q)) ≡ true
     pop-sound =

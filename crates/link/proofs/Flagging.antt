@@ -35,7 +35,9 @@ use Rattle.history.specs.Effects.{swaps}
 use Rattle.history.specs.Run.{Step, changes, step-swaps}
 use Rattle.history.proofs.Invariant.{Sound}
 use Rattle.history.proofs.Lasting.{grown}
-use Rattle.history.proofs.Descent.{read-now}
+use Rattle.history.proofs.Runs.{grown-at}
+use Rattle.history.proofs.Newer.{been-on}
+use Rattle.history.proofs.Descent.{Way, read-now}
 use Rattle.history.proofs.Knows.{Mind, Job as Task, to-put, to-take, Replaces, Prunes}
 use Rattle.history.proofs.Drawing.{Words, one-more, one-less, sprouts as sprouting, draws-replace, draws-prune, own-replace, own-prune}
 use Rattle.link.specs.Tables.{viewOf, tablesOf}
@@ -43,8 +45,8 @@ use Rattle.link.proofs.Keyed.{keys-are, mem-holds, not-holds, sorted-ri
 use Rattle.link.proofs.Draws.{drawnHeader, Drew, drew-prune, drew-replace, drew-fit, drew-swap, drew-stack, prune-record, replace-record}
 use Rattle.link.proofs.Born.{needs-one, needs-many, born-put, born-take, born-sprout}
 use Rattle.link.proofs.Checks.{word-names, kin-leaf, node-good, pending-good}
-use Rattle.link.proofs.Minds.{no-find, only-delete, mindOf, held-more}
-use Rattle.link.proofs.Moments.{tables, Now, Busy, no-room, Follows, afterwards, answers, nobody, Turn, k-low, now-sound, quiet}
+use Rattle.link.proofs.Minds.{Newer, newer-helped, newer-stack, no-find, only-delete, mindOf, held-more}
+use Rattle.link.proofs.Moments.{tables, Now, Busy, no-room, Follows, afterwards, answers, nobody, Turn, k-low, now-sound, late-at, quiet}
 use Rattle.link.proofs.Seeing.{counters-help, held-records}
 use Rattle.link.proofs.Searching.{known, helps-word}
 
@@ -56,15 +58,15 @@ help-good-empty b h depth top e (Replace r) = refl
 help-good-empty b h depth top e (Prune r) = refl
 help-good-empty b h depth top e (Mark r) = refl
 
--- after a draw by process n every record in use has its process in range
-drew-owners : {h : Header} {b b′ : List ℕ} {flagged needed kind third expected : ℕ} (j : Job) → Drew h b b′ flagged needed kind (recordImage kind third expected j)
-    → ((r : ℕ) → In (h .recordsused) r → In (h .processes) (recordWord b h r processField)) → In (h .processes) (j .process)
-    → (r : ℕ) → In (newRecord h) r → In (h .processes) (recordWord b′ h r processField)
-drew-owners {h} {b} {b′} j d f p r i = go (decLe r (h .recordsused))
+-- after a draw by a process every record above `first` has its process in range
+drew-owners : {h : Header} {b b′ : List ℕ} {first flagged needed kind third expected : ℕ} (j : Job) → Drew h b b′ flagged needed kind (recordImage kind third expected j)
+    → ((r : ℕ) → first < r → r ≤ h .recordsused → In (h .processes) (recordWord b h r processField)) → In (h .processes) (j .process)
+    → (r : ℕ) → first < r → r ≤ newRecord h → In (h .processes) (recordWord b′ h r processField)
+drew-owners {h} {b} {b′} j d f p r low high = go (decLe r (h .recordsused))
   where
     go : Dec (r ≤ h .recordsused) → In (h .processes) (recordWord b′ h r processField)
-    go (yes l) = let u : In (h .recordsused) r = omega (arith, i) in rw (d .rec r processField u (omega arith)) (f r u)
-    go (no l) = let z : r ≡ newRecord h = omega (arith, i) in rw (z, d .new processField (omega arith)) p
+    go (yes l) = rw (d .rec r processField (omega arith) (omega arith)) (f r low l)
+    go (no l) = let z : r ≡ newRecord h = omega arith in rw (z, d .new processField (omega arith)) p
 
 module _ {hs : ℕ → Header} {bs : ℕ → List ℕ} {i j n : ℕ} (now : Now hs bs j) (q : Process) (y : Busy hs bs i j n q) where
   abbrev h : Header
@@ -89,10 +91,11 @@ module _ {hs : ℕ → Header} {bs : ℕ → List ℕ} {i j n : ℕ} (now : Now 
   I = now-sound now
 
   -- another value is seen: it is helped
-  sees : (point : ℕ) → q .point ≡ point → point ≤ 5 → q .operation ≢ 1 → (a : ℕ) → In (h .nodesused) a → (top : ℕ)
+  sees : (point : ℕ) → q .point ≡ point → point ≤ 5 → q .operation ≢ 1 → (a : ℕ) → Way k S i j (q .key) a → (top : ℕ)
       → Follows hs bs i j n h b q (helping top q (pendingOf (pendingWord b h a)))
-  sees point e l o a u top =
-      helps-word now q y (omega arith) o q (y .counters) (y .held) refl (y .counters .early-depth (omega arith)) (y .counters .early-own (omega arith)) (read-now I u) top
+  sees point e l o a w top =
+      helps-word now q y (omega arith) o q (y .counters) (y .held) (y .newer) refl (y .counters .early-depth (omega arith)) (y .counters .early-own (omega arith)) (read-now I (w .used))
+      (late-at now (been-on (k-low now) (now .run) (now .first) (w .was))) top
 
   -- what either draw is: the new record is of this process, and its own
   drew-turn : {b′ : List ℕ} {flagged needed kind third expected : ℕ} {s : Stepped} → Drew h b b′ flagged needed kind (recordImage kind third expected job) → Room h needed
@@ -117,6 +120,12 @@ module _ {hs : ℕ → Header} {bs : ℕ → List ℕ} {i j n : ℕ} (now : Now 
     where
       only : (r : ℕ) → h .recordsused < r → r ≤ newRecord h → r ≡ newRecord h
       only r a e = omega arith
+
+  -- the new record is newer than all, and the stack is empty
+  newer-drawn : {stack : ℕ → ℕ} → q .point ≤ 5 → Newer (hs 0 .recordsused) (q .pseen) (q .gseen) (newRecord h) (q .depth) stack
+  newer-drawn l =
+      newer-stack (λ d z. absurd (omega (arith, y .counters .early-depth l)))
+      (newer-helped (newRecord h) (omega (arith, grown-at (k-low now) (now .run) (now .first) 0 j (omega arith) (omega arith) .records-more)) (y .newer))
 
   module _ (e₄ : q .point ≡ 4) where
     w₄ : Replaces k S i j mind
@@ -191,6 +200,7 @@ module _ {hs : ℕ → Header} {bs : ℕ → List ℕ} {i j n : ℕ} (now : Now 
           drew-turn drew room (omega arith) step refl refl
           (afterwards (toSix (withOwn q (newRecord h)) (newRecord h)) refl (λ d z. absurd (z (y .counters .early-own (omega arith))))
           (held-records (newRecord h) (newRecord h) (omega arith) (omega arith) (held-more (grown (k-low now) I step) (y .held)))
+          (newer-drawn (omega arith))
           (counters-help 6 1 (q .depth) (newRecord h) (y .counters) (no-find (y .counters) (omega arith)) (omega arith) (omega arith) (omega (arith, k-low now)) (λ z. omega arith) (λ z x. absurd (omega arith)) (λ z. absurd (omega arith)))
           (omega arith)
           (own-replace (k-low now) (newRecord h) (omega arith) refl refl (y .counters .early-depth (omega arith)) (replace-record (now .fit) job count room p-used .words) refl))
@@ -209,7 +219,7 @@ module _ {hs : ℕ → Header} {bs : ℕ → List ℕ} {i j n : ℕ} (now : Now 
             (pick (both s r) (replaceDrawn b h job count) b)
         go true e true f = with-sound (drawn (eqb-true _ _ e) (room-is h needs f))
         go true e false f = quiet now (λ z. absurd (omega arith)) (λ z. absurd (omega arith)) sound (answers (answer 2) refl (λ z. absurd (z (y .counters .early-own (omega arith)))) (no-room (no-find (y .counters) (omega arith)) refl (y .counters .early-own (omega arith))))
-        go false e r f = quiet now (λ z. absurd (omega arith)) (λ z. absurd (omega arith)) sound (sees 4 e₄ (omega arith) (no-find (y .counters) (omega arith)) (q .p) p-used (topOf b h n q))
+        go false e r f = quiet now (λ z. absurd (omega arith)) (λ z. absurd (omega arith)) sound (sees 4 e₄ (omega arith) (no-find (y .counters) (omega arith)) (q .p) (w₄ .arrived .leaf .way) (topOf b h n q))
 
   module _ (e₅ : q .point ≡ 5) where
     w₅ : Prunes k S i j mind
@@ -248,6 +258,7 @@ module _ {hs : ℕ → Header} {bs : ℕ → List ℕ} {i j n : ℕ} (now : Now 
           drew-turn drew₅ room (omega arith) step₅ refl refl
           (afterwards (toNine (withOwn q (newRecord h)) (newRecord h)) refl (λ d z. absurd (z (y .counters .early-own (omega arith))))
           (held-records (newRecord h) (newRecord h) (omega arith) (omega arith) (held-more (grown (k-low now) I step₅) (y .held)))
+          (newer-drawn (omega arith))
           (counters-help 9 (q .index) (q .depth) (newRecord h) (y .counters) (no-find (y .counters) (omega arith)) (omega arith) (omega arith) (y .counters .index-high) (λ z. absurd (omega arith)) (λ z x. absurd (omega arith)) (λ z. absurd (omega arith)))
           (omega arith)
           (own-prune (k-low now) (newRecord h) (omega arith) refl refl (y .counters .early-depth (omega arith)) delete
@@ -266,4 +277,4 @@ module _ {hs : ℕ → Header} {bs : ℕ → List ℕ} {i j n : ℕ} (now : Now 
             (pick (both s r) (pruneDrawn b h job (q .gp) (wordOf (q .pseen))) b)
         go true e true f = with-sound (drawn₅ (eqb-true _ _ e) (room-is h 0 f))
         go true e false f = quiet now (λ z. absurd (omega arith)) (λ z. absurd (omega arith)) sound₅ (answers (answer 2) refl (λ z. absurd (z (y .counters .early-own (omega arith)))) (no-room (no-find (y .counters) (omega arith)) refl (y .counters .early-own (omega arith))))
-        go false e r f = quiet now (λ z. absurd (omega arith)) (λ z. absurd (omega arith)) sound₅ (sees 5 e₅ (omega arith) (no-find (y .counters) (omega arith)) (q .gp) gp-used (topOf b h n q))
+        go false e r f = quiet now (λ z. absurd (omega arith)) (λ z. absurd (omega arith)) sound₅ (sees 5 e₅ (omega arith) (no-find (y .counters) (omega arith)) (q .gp) (w₅ .delete .up .way) (topOf b h n q))

@@ -23,9 +23,10 @@ use Rattle.finish.specs.Rows.{hangRow, row6, row7, row12, row13}
 use Rattle.history.specs.View.{In}
 use Rattle.history.specs.Shared.{Shared}
 use Rattle.history.specs.Change.{SwapChild, SameTables, swap-replace, swap-prune}
-use Rattle.history.specs.Effects.{swaps}
+use Rattle.history.specs.Effects.{swaps, Noted}
 use Rattle.history.specs.Run.{Step, changes, step-swaps}
 use Rattle.history.proofs.Invariant.{Sound}
+use Rattle.history.proofs.ChildWords.{swaps-new, swaps-noted}
 use Rattle.history.proofs.Lasting.{grown}
 use Rattle.history.proofs.Touch.{child-used, p-used, gp-used}
 use Rattle.history.proofs.Helps.{Marks, Helps, LooksForL, LooksForP, l-found, l-not-here, l-nowhere, l-swapped-before, p-found, p-not-here, p-nowhere, p-swapped-before, always-one, swap-ends}
@@ -33,7 +34,7 @@ use Rattle.history.proofs.Knows.{Mind, KnowsAt, Serves}
 use Rattle.link.specs.Tables.{viewOf, tablesOf, stackOf}
 use Rattle.link.proofs.Writes.{Writes, writes-node, writes-tables, child-swap}
 use Rattle.link.proofs.Checks.{below-good}
-use Rattle.link.proofs.Minds.{no-find, mindOf, CountersBy, held-more}
+use Rattle.link.proofs.Minds.{newer-same, no-find, mindOf, CountersBy, held-more}
 use Rattle.link.proofs.Moments.{tables, Now, Busy, Follows, already, afterwards, Swapper, at-7, at-13, Turn, k-low, now-sound, quiet}
 use Rattle.link.proofs.Seeing.{counters-help}
 use Rattle.link.proofs.Searching.{known}
@@ -92,14 +93,14 @@ module _ {hs : ℕ → Header} {bs : ℕ → List ℕ} {i j n : ℕ} (now : Now 
     unfolding row6
     turn-6 =
         looks now q y P (recordWord b h r lField) 7 8 (λ z. omega arith) (λ z. omega arith) (p-used (I .inv) r (w₆ .used)) (I .inv .good r (w₆ .used) .inner) i₆
-        (λ x. already (withPoint q 7) refl (λ d. absurd (d refl)) (y .held) (counters 6 e₆ (omega arith) w₆ 7 (q .index) (omega arith) (omega arith) (i₆ .high) (i₆ .low) (λ z. omega arith))
+        (λ x. already (withPoint q 7) refl (λ d. absurd (d refl)) (y .held) (y .newer) (counters 6 e₆ (omega arith) w₆ 7 (q .index) (omega arith) (omega arith) (i₆ .high) (i₆ .low) (λ z. omega arith))
         (serving 6 e₆ (omega arith) w₆ b (S j) 7 (q .index) (λ z. omega arith) (λ z. omega arith) refl w₆ (l-found hk I r (w₆ .used) (w₆ .helps) i₆ x)))
-        (λ x l. already (withIndex q (q .index + 1)) refl (λ d. absurd (d refl)) (y .held)
+        (λ x l. already (withIndex q (q .index + 1)) refl (λ d. absurd (d refl)) (y .held) (y .newer)
         (rw e₆ (counters 6 e₆ (omega arith) w₆ 6 (q .index + 1) (omega arith) (omega arith) (omega arith) (omega arith) (λ z. omega arith)))
         (subst (λ (m : ℕ). KnowsAt k S i j (mindOf h b n (withIndex q (q .index + 1))) m) (sym e₆)
         (goes-on h b b n 6 6 q (withIndex q (q .index + 1)) refl refl refl refl refl refl (λ z. omega arith) (λ z. omega arith) w₆
         (rw (add-one (q .index)) (l-not-here hk I r (w₆ .used) (w₆ .helps) x)))))
-        (λ x l. already (withPoint q 8) refl (λ d. absurd (d refl)) (y .held) (counters 6 e₆ (omega arith) w₆ 8 (q .index) (omega arith) (omega arith) (i₆ .high) (i₆ .low) (λ z. omega arith))
+        (λ x l. already (withPoint q 8) refl (λ d. absurd (d refl)) (y .held) (y .newer) (counters 6 e₆ (omega arith) w₆ 8 (q .index) (omega arith) (omega arith) (i₆ .high) (i₆ .low) (λ z. omega arith))
         (serving 6 e₆ (omega arith) w₆ b (S j) 8 (q .index) (λ z. omega arith) (λ z. omega arith) refl w₆
         (l-nowhere hk I r (w₆ .used) (subst (λ (m : ℕ). LooksForL k (S j) r (suc m)) l (l-not-here hk I r (w₆ .used) (w₆ .helps) x)))))
 
@@ -114,14 +115,14 @@ module _ {hs : ℕ → Header} {bs : ℕ → List ℕ} {i j n : ℕ} (now : Now 
     unfolding row12 Marks
     turn-12 =
         looks now q y T P 13 14 (λ z. omega arith) (λ z. omega arith) (gp-used (I .inv) r (w₁₂ .used) (w₁₂ .helps .notes .marks .0)) (I .inv .good r (w₁₂ .used) .prune (w₁₂ .helps .notes .marks .0) .gp-inner) i₁₂
-        (λ x. already (withPoint q 13) refl (λ d. absurd (d refl)) (y .held) (counters 12 e₁₂ (omega arith) w₁₂ 13 (q .index) (omega arith) (omega arith) (i₁₂ .high) (i₁₂ .low) (λ z. omega arith))
+        (λ x. already (withPoint q 13) refl (λ d. absurd (d refl)) (y .held) (y .newer) (counters 12 e₁₂ (omega arith) w₁₂ 13 (q .index) (omega arith) (omega arith) (i₁₂ .high) (i₁₂ .low) (λ z. omega arith))
         (serving 12 e₁₂ (omega arith) w₁₂ b (S j) 13 (q .index) (λ z. omega arith) (λ z. omega arith) refl w₁₂ (p-found hk I r (w₁₂ .used) (w₁₂ .helps) i₁₂ x)))
-        (λ x l. already (withIndex q (q .index + 1)) refl (λ d. absurd (d refl)) (y .held)
+        (λ x l. already (withIndex q (q .index + 1)) refl (λ d. absurd (d refl)) (y .held) (y .newer)
         (rw e₁₂ (counters 12 e₁₂ (omega arith) w₁₂ 12 (q .index + 1) (omega arith) (omega arith) (omega arith) (omega arith) (λ z. omega arith)))
         (subst (λ (m : ℕ). KnowsAt k S i j (mindOf h b n (withIndex q (q .index + 1))) m) (sym e₁₂)
         (goes-on h b b n 12 12 q (withIndex q (q .index + 1)) refl refl refl refl refl refl (λ z. omega arith) (λ z. omega arith) w₁₂
         (rw (add-one (q .index)) (p-not-here hk I r (w₁₂ .used) (w₁₂ .helps) x)))))
-        (λ x l. already (withPoint q 14) refl (λ d. absurd (d refl)) (y .held) (counters 12 e₁₂ (omega arith) w₁₂ 14 (q .index) (omega arith) (omega arith) (i₁₂ .high) (i₁₂ .low) (λ z. omega arith))
+        (λ x l. already (withPoint q 14) refl (λ d. absurd (d refl)) (y .held) (y .newer) (counters 12 e₁₂ (omega arith) w₁₂ 14 (q .index) (omega arith) (omega arith) (i₁₂ .high) (i₁₂ .low) (λ z. omega arith))
         (serving 12 e₁₂ (omega arith) w₁₂ b (S j) 14 (q .index) (λ z. omega arith) (λ z. omega arith) refl w₁₂
         (p-nowhere hk I r (w₁₂ .used) (subst (λ (m : ℕ). LooksForP k (S j) r (suc m) (q .other)) l (p-not-here hk I r (w₁₂ .used) (w₁₂ .helps) x)))))
 
@@ -198,8 +199,9 @@ module _ {hs : ℕ → Header} {bs : ℕ → List ℕ} {i j n : ℕ} (now : Now 
         hangs P (recordWord b h r lField) T 8 u₇ f₇ i₇ up₇
         (λ x. (
           step₇ x,
-          at-7 e₇ x (is₇ x),
+          at-7 e₇ x (is₇ x) (swaps-new hk I r (q .index) (q .other) (w₇ .used) (w₇ .helps .kind) i₇ x (hung-swap P 0 T 0 u₇ f₇ i₇ up₇)),
           afterwards (withPoint q 8) refl (λ d. absurd (d refl)) (held-more (grown hk I (step₇ x)) (y .held))
+              (newer-same (hung-stack P 0 T 0 u₇ f₇ i₇ up₇ n (y .place)) (y .newer))
               (counters 7 e₇ (omega arith) w₇ 8 (q .index) (omega arith) (omega arith) (i₇ .high) (i₇ .low) (λ z. omega arith)) (omega arith)
               (serving 7 e₇ (omega arith) w₇ (hung P T) (tablesOf h (hung P T)) 8 (q .index) (λ z. omega arith) (λ z. omega arith) (hung-stack P 0 T 0 u₇ f₇ i₇ up₇ n (y .place))
               (serves-stays mind 7 hk I (step₇ x) (omega arith) w₇) (swap-ends hk I (step₇ x) (w₇ .used .low) (is₇ x) (w₇ .helps .kind))),
@@ -207,7 +209,7 @@ module _ {hs : ℕ → Header} {bs : ℕ → List ℕ} {i j n : ℕ} (now : Now 
         (λ x. (
           (λ z. x),
           (λ z. absurd (omega arith)),
-          already (withPoint q 8) refl (λ d. absurd (d refl)) (y .held) (counters 7 e₇ (omega arith) w₇ 8 (q .index) (omega arith) (omega arith) (i₇ .high) (i₇ .low) (λ z. omega arith))
+          already (withPoint q 8) refl (λ d. absurd (d refl)) (y .held) (y .newer) (counters 7 e₇ (omega arith) w₇ 8 (q .index) (omega arith) (omega arith) (i₇ .high) (i₇ .low) (λ z. omega arith))
               (serving 7 e₇ (omega arith) w₇ b (S j) 8 (q .index) (λ z. omega arith) (λ z. omega arith) refl w₇ (l-swapped-before hk I r (w₇ .used) (w₇ .helps) x)),
         ))
 
@@ -228,6 +230,9 @@ module _ {hs : ℕ → Header} {bs : ℕ → List ℕ} {i j n : ℕ} (now : Now 
 
     one : (m : ℕ) × In k m × (viewOf h b .child P m ≡ q .other) × (viewOf h b .tag (q .other) ≢ 0) × (q .other ≢ recordWord b h r lField)
     one = always-one hk I r (w₁₃ .used) (w₁₃ .helps .notes .marks) (w₁₃ .helps .notes .noted)
+
+    noted : Noted k (S j) (S j .rec r) (q .other)
+    noted = record { index = one .0; index-in = one .1; child = one .2; non-empty = one .3; not-l = one .4 }
 
     u₁₃ : In (h .nodesused) T
     u₁₃ = gp-used (I .inv) r (w₁₃ .used) kind
@@ -259,8 +264,9 @@ module _ {hs : ℕ → Header} {bs : ℕ → List ℕ} {i j n : ℕ} (now : Now 
         hangs T P (q .other) 14 u₁₃ f₁₃ i₁₃ up₁₃
         (λ x. (
           step₁₃ x,
-          at-13 e₁₃ x (is₁₃ x),
+          at-13 e₁₃ x (is₁₃ x) (swaps-noted hk I r (q .index) (q .other) (w₁₃ .used) kind noted i₁₃ x (hung-swap T 0 (q .other) 0 u₁₃ f₁₃ i₁₃ up₁₃)),
           afterwards (withPoint q 14) refl (λ d. absurd (d refl)) (held-more (grown hk I (step₁₃ x)) (y .held))
+              (newer-same (hung-stack T 0 (q .other) 0 u₁₃ f₁₃ i₁₃ up₁₃ n (y .place)) (y .newer))
               (counters 13 e₁₃ (omega arith) w₁₃ 14 (q .index) (omega arith) (omega arith) (i₁₃ .high) (i₁₃ .low) (λ z. omega arith)) (omega arith)
               (serving 13 e₁₃ (omega arith) w₁₃ (hung T (q .other)) (tablesOf h (hung T (q .other))) 14 (q .index) (λ z. omega arith) (λ z. omega arith) (hung-stack T 0 (q .other) 0 u₁₃ f₁₃ i₁₃ up₁₃ n (y .place))
               (serves-stays mind 13 hk I (step₁₃ x) (omega arith) w₁₃) (swap-ends hk I (step₁₃ x) (w₁₃ .used .low) (is₁₃ x) kind)),
@@ -268,6 +274,6 @@ module _ {hs : ℕ → Header} {bs : ℕ → List ℕ} {i j n : ℕ} (now : Now 
         (λ x. (
           (λ z. absurd (omega arith)),
           (λ z. x),
-          already (withPoint q 14) refl (λ d. absurd (d refl)) (y .held) (counters 13 e₁₃ (omega arith) w₁₃ 14 (q .index) (omega arith) (omega arith) (i₁₃ .high) (i₁₃ .low) (λ z. omega arith))
+          already (withPoint q 14) refl (λ d. absurd (d refl)) (y .held) (y .newer) (counters 13 e₁₃ (omega arith) w₁₃ 14 (q .index) (omega arith) (omega arith) (i₁₃ .high) (i₁₃ .low) (λ z. omega arith))
               (serving 13 e₁₃ (omega arith) w₁₃ b (S j) 14 (q .index) (λ z. omega arith) (λ z. omega arith) refl w₁₃ (p-swapped-before hk I r (w₁₃ .used) (w₁₃ .helps) x)),
         ))

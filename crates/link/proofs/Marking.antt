@@ -31,6 +31,7 @@ use Rattle.history.specs.Run.{Step, changes, rests, step-swaps}
 use Rattle.history.proofs.Invariant.{Sound}
 use Rattle.history.proofs.Lasting.{grown}
 use Rattle.history.proofs.Touch.{p-used, child-used}
+use Rattle.history.proofs.Newer.{been-p}
 use Rattle.history.proofs.Stacks.{stack-push}
 use Rattle.history.proofs.Helping.{Noted, noted-first}
 use Rattle.history.proofs.Helps.{Marks, Notes, notes-skip, notes-take, never-a-second, always-one, all-noted}
@@ -40,8 +41,8 @@ use Rattle.history.proofs.Serving as serving
 use Rattle.link.specs.Tables.{viewOf, tablesOf, stackOf}
 use Rattle.link.proofs.Writes.{Writes, writes-none, writes-node, writes-stack, writes-tables, pend-swap, tables-same, stack-same, stack-over-stack, stack-new}
 use Rattle.link.proofs.Checks.{word-names, pending-good, below-good}
-use Rattle.link.proofs.Minds.{no-find, mindOf, CountersBy, held-more, stack-room}
-use Rattle.link.proofs.Moments.{tables, Now, Busy, Follows, already, afterwards, nobody, Turn, k-low, now-sound, quiet}
+use Rattle.link.proofs.Minds.{NewerBy, newer-same, newer-stack, no-find, mindOf, CountersBy, held-more, stack-room}
+use Rattle.link.proofs.Moments.{tables, Now, Busy, Follows, already, afterwards, nobody, Turn, k-low, now-sound, late-at, quiet}
 use Rattle.link.proofs.Seeing.{counters-help, held-other, Loose, free, below, helps-on}
 use Rattle.link.proofs.Searching.{known}
 use Rattle.link.proofs.Scanning.{nonempty-is}
@@ -85,6 +86,9 @@ module _ {hs : ℕ → Header} {bs : ℕ → List ℕ} {i j n : ℕ} (now : Now 
     u₉ : In (h .nodesused) P
     u₉ = p-used (I .inv) r (w₉ .used)
 
+    r-late : hs 0 .recordsused < r
+    r-late = y .newer .helped-late (λ z. omega (arith, w₉ .used .low))
+
     abbrev seen : ℕ
     seen = pendingWord b h P
 
@@ -118,7 +122,7 @@ module _ {hs : ℕ → Header} {bs : ℕ → List ℕ} {i j n : ℕ} (now : Now 
 
     marked-after : seen ≡ recordWord b h r expectedField → Follows hs bs i j n h marked-block q (goingOn (toEleven q r))
     marked-after x =
-        afterwards (toEleven q r) refl (λ d. absurd (d refl)) (held-other 0 (inl refl) (held-more (grown hk I (step₉ x)) (y .held))) eleven (omega arith)
+        afterwards (toEleven q r) refl (λ d. absurd (d refl)) (held-other 0 (inl refl) (held-more (grown hk I (step₉ x)) (y .held))) (newer-same (mark-stack n (y .place)) (y .newer)) eleven (omega arith)
         (goes-on h b marked-block n 9 11 q (toEleven q r) refl refl refl refl refl (mark-stack n (y .place)) (λ z. omega arith) (λ z. omega arith)
         (serves-stays mind 9 hk I (step₉ x) (omega arith) w₉) (record { marks = marks-now; noted = noted-first }))
 
@@ -126,7 +130,7 @@ module _ {hs : ℕ → Header} {bs : ℕ → List ℕ} {i j n : ℕ} (now : Now 
     marked-before : seen ≡ 4 * r + 3 → Follows hs bs i j n h b q (goingOn (toEleven q r))
     unfolding Marks
     marked-before x =
-        already (toEleven q r) refl (λ d. absurd (d refl)) (held-other 0 (inl refl) (y .held)) eleven
+        already (toEleven q r) refl (λ d. absurd (d refl)) (held-other 0 (inl refl) (y .held)) (y .newer) eleven
         (goes-on h b b n 9 11 q (toEleven q r) refl refl refl refl refl refl (λ z. omega arith) (λ z. omega arith) w₉ (record { marks = (kind, x); noted = noted-first }))
 
     -- a push
@@ -176,12 +180,20 @@ module _ {hs : ℕ → Header} {bs : ℕ → List ℕ} {i j n : ℕ} (now : Now 
           bottom (yes e) = subst (λ (m : ℕ). stackOf h pushed-block n m ≡ r) e new ∙ g e
           bottom (no e) = same 0 (omega arith) ∙ o (omega arith)
 
+      newer : NewerBy (hs 0 .recordsused) (stackOf h pushed-block n) deeper
+      newer = newer-stack (λ d l. entry d l (ℕ-discrete d (q .depth))) (y .newer)
+        where
+          entry : (d : ℕ) → d < q .depth + 1 → Dec (d ≡ q .depth) → hs 0 .recordsused < stackOf h pushed-block n d
+          entry d l (yes e) = rw (e, new) r-late
+          entry d l (no e) = rw (same d (omega arith)) (y .newer .stack-late d (omega arith))
+
       pushes : Follows hs bs i j n h pushed-block q (helping r deeper (pendingOf seen))
       pushes =
           helps-on n now q deeper pushed-block r (y .since)
           (rw e₉ (counters-help 9 (q .index) (q .depth + 1) (q .own) (y .counters) (no-find (y .counters) (omega arith)) (omega arith) (omega arith) (y .counters .index-high) (λ z. absurd (omega arith)) (λ z x. absurd (omega arith)) (λ z. omega arith)))
-          (y .held) (no-find (y .counters) (omega arith)) (serving.pushed (mindOf h pushed-block n deeper) w₉ failed (add-one (q .depth)) same new) (loose (w₉ .own))
+          (y .held) newer (no-find (y .counters) (omega arith)) (serving.pushed (mindOf h pushed-block n deeper) w₉ failed (add-one (q .depth)) same new) (loose (w₉ .own))
           (λ d z. sym (subst (λ (m : ℕ). stackOf h pushed-block n m ≡ r) (is d z) new)) refl (λ z. absurd (omega arith)) (read-now I u₉)
+          (late-at now (been-p hk (now .run) (now .first) j r (omega arith) r-late (w₉ .used .high)))
           (λ m z. serving.met-there (mindOf h pushed-block n deeper) w₉ failed (add-one (q .depth)) same new z)
         where
           is : (d : ℕ) → q .depth + 1 ≡ suc d → q .depth ≡ d
@@ -256,12 +268,12 @@ module _ {hs : ℕ → Header} {bs : ℕ → List ℕ} {i j n : ℕ} (now : Now 
         where
           go : (t : Bool) → ltb (q .index) k ≡ t → Follows hs bs i j n h b q (pick t (goingOn (withIndex (withOther q other) (q .index + 1))) (goingOn (toTwelve (withOther q other))))
           go true x =
-              already (withIndex (withOther q other) (q .index + 1)) refl (λ d. absurd (d refl)) (held-other other g (y .held))
+              already (withIndex (withOther q other) (q .index + 1)) refl (λ d. absurd (d refl)) (held-other other g (y .held)) (y .newer)
               (rw e₁₁ (counters-help 11 (q .index + 1) (q .depth) (q .own) (y .counters) (no-find (y .counters) (omega arith)) (omega arith) (omega arith) (omega (arith, ltb-true (q .index) k x)) (λ z. absurd (omega arith)) (λ z v. omega arith) (λ z. absurd (omega arith))))
               (subst (λ (m : ℕ). KnowsAt k S i j (mindOf h b n (withIndex (withOther q other) (q .index + 1))) m) (sym e₁₁)
               (goes-on h b b n 11 11 q (withIndex (withOther q other) (q .index + 1)) refl refl refl refl refl refl (λ z. omega arith) (λ z. omega arith) w₁₁ (rw (add-one (q .index)) w)))
           go false x =
-              already (toTwelve (withOther q other)) refl (λ d. absurd (d refl)) (held-other other g (y .held))
+              already (toTwelve (withOther q other)) refl (λ d. absurd (d refl)) (held-other other g (y .held)) (y .newer)
               (counters-help 12 1 (q .depth) (q .own) (y .counters) (no-find (y .counters) (omega arith)) (omega arith) (omega arith) (omega (arith, hk)) (λ z. absurd (omega arith)) (λ z v. omega arith) (λ z. absurd (omega arith)))
               (goes-on h b b n 11 12 q (toTwelve (withOther q other)) refl refl refl refl refl refl (λ z. omega arith) (λ z. omega arith) w₁₁
               (all-noted hk I r (w₁₁ .used) (subst (λ (m : ℕ). Notes k (S j) r (suc m) other) (last (ltb-false (q .index) k x)) w)))

@@ -30,7 +30,7 @@ use Rattle.history.proofs.Stacks.{Stacked, stack-depth}
 use Rattle.history.proofs.Knows.{Mind, Serves}
 use Rattle.link.specs.Tables.{viewOf, tablesOf, stackOf}
 use Rattle.link.proofs.Writes.{Fit}
-use Rattle.link.proofs.Checks.{within-is, Names, inner-good, leaf-good, node-good, pending-good, replace-good, prune-good}
+use Rattle.link.proofs.Checks.{within-is, Names, Late, inner-good, leaf-good, node-good, pending-good, replace-good, prune-good}
 
 -- a process record as the history sees it
 abbrev pub mindWith : (ℕ → ℕ) → ℕ → Process → Mind
@@ -70,6 +70,32 @@ pub record Held (k : ℕ) (s : Shared) (gp p l : ℕ) (pseen gseen : Pending) (h
 
 abbrev pub HeldBy : ℕ → Shared → Process → Type 0
 HeldBy k s q = Held k s (q .gp) (q .p) (q .l) (q .pseen) (q .gseen) (q .helped) (q .other) (q .own)
+
+-- what it helps, or may come to help, was drawn late: no record up to f, of those in use at the beginning
+pub record Newer (f : ℕ) (pseen gseen : Pending) (helped depth : ℕ) (stack : ℕ → ℕ) : Type 0 where
+  pub pseen-late : Late f pseen
+  pub gseen-late : Late f gseen
+  pub helped-late : helped ≢ 0 → f < helped
+  pub stack-late : (d : ℕ) → d < depth → f < stack d
+
+abbrev pub NewerBy : ℕ → (ℕ → ℕ) → Process → Type 0
+NewerBy f stack q = Newer f (q .pseen) (q .gseen) (q .helped) (q .depth) stack
+
+pub newer-root : {f : ℕ} {stack : ℕ → ℕ} → Newer f (Clean 0) (Clean 0) 0 0 stack
+newer-root = record { pseen-late = omega arith; gseen-late = omega arith; helped-late = λ z. absurd (z refl); stack-late = λ d l. absurd (omega arith) }
+
+-- another record is helped
+pub newer-helped : {f : ℕ} {pseen gseen : Pending} {helped depth : ℕ} {stack : ℕ → ℕ} (r : ℕ) → f < r → Newer f pseen gseen helped depth stack → Newer f pseen gseen r depth stack
+newer-helped r l w = record { pseen-late = w .pseen-late; gseen-late = w .gseen-late; helped-late = λ z. l; stack-late = w .stack-late }
+
+-- the stack is as it was; or it is another, and no entry of it is older
+pub newer-same : {f : ℕ} {pseen gseen : Pending} {helped depth : ℕ} {stack stack′ : ℕ → ℕ} → stack′ ≡ stack → Newer f pseen gseen helped depth stack
+    → Newer f pseen gseen helped depth stack′
+newer-same {f} {pseen} {gseen} {helped} {depth} e w = subst (λ (g : ℕ → ℕ). Newer f pseen gseen helped depth g) (sym e) w
+
+pub newer-stack : {f : ℕ} {pseen gseen : Pending} {helped depth depth′ : ℕ} {stack stack′ : ℕ → ℕ} → ((d : ℕ) → d < depth′ → f < stack′ d)
+    → Newer f pseen gseen helped depth stack → Newer f pseen gseen helped depth′ stack′
+newer-stack l w = record { pseen-late = w .pseen-late; gseen-late = w .gseen-late; helped-late = w .helped-late; stack-late = l }
 
 -- its numbers are in range
 pub record Counters (k operation key point index mask depth own : ℕ) : Type 0 where
@@ -265,15 +291,17 @@ helps-kind k s r index other (suc (suc (suc (suc (suc (suc (suc (suc (suc (suc (
 helps-kind k s r index other (suc (suc (suc (suc (suc (suc (suc (suc (suc (suc (suc (suc (suc (suc zero)))))))))))))) w = w .is
 helps-kind k s r index other (suc (suc (suc (suc (suc (suc (suc (suc (suc (suc (suc (suc (suc (suc (suc m))))))))))))))) w = absurd w
 
-pub helps-good : {h : Header} {b : List ℕ} (q : Process) → Fit h b → Sound (h .k) (tablesOf h b) → ((r : ℕ) → In (h .recordsused) r → In (h .processes) (recordWord b h r processField))
-    → (6 ≤ q .point → In (h .recordsused) (q .helped) × (recordWord b h (q .helped) 0 ≡ kindAt (q .point))) → helpedGood b h q ≡ true
+pub helps-good : {h : Header} {b : List ℕ} (q : Process) → Fit h b → Sound (h .k) (tablesOf h b)
+    → (6 ≤ q .point → In (h .recordsused) (q .helped) × In (h .processes) (recordWord b h (q .helped) processField) × (recordWord b h (q .helped) 0 ≡ kindAt (q .point)))
+    → helpedGood b h q ≡ true
 unfolding helpedGood pick
-helps-good {h} {b} q fit I owners f = go (ltb (q .point) 6) refl
+helps-good {h} {b} q fit I f = go (ltb (q .point) 6) refl
   where
-    kinds : (t : Bool) → leb (q .point) 8 ≡ t → In (h .recordsused) (q .helped) → recordWord b h (q .helped) 0 ≡ pick t 1 2 → recordGood b h (pick t 1 2) (q .helped) ≡ true
-    kinds true e i x = replace-good fit I (q .helped) i (owners (q .helped) i) x
-    kinds false e i x = prune-good fit I (q .helped) i (owners (q .helped) i) x
+    kinds : (t : Bool) → leb (q .point) 8 ≡ t → In (h .recordsused) (q .helped) → In (h .processes) (recordWord b h (q .helped) processField) → recordWord b h (q .helped) 0 ≡ pick t 1 2
+        → recordGood b h (pick t 1 2) (q .helped) ≡ true
+    kinds true e i o x = replace-good fit I (q .helped) i o x
+    kinds false e i o x = prune-good fit I (q .helped) i o x
 
     go : (t : Bool) → ltb (q .point) 6 ≡ t → pick t true (recordGood b h (kindAt (q .point)) (q .helped)) ≡ true
     go true e = refl
-    go false e = let g = f (ltb-false (q .point) 6 e) in kinds (leb (q .point) 8) refl (g .0) (g .1)
+    go false e = let g = f (ltb-false (q .point) 6 e) in kinds (leb (q .point) 8) refl (g .0) (g .1) (g .2)

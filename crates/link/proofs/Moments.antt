@@ -9,6 +9,7 @@ use lib.Pow.{pow-pos}
 use Rattle.tables.specs.Numbers.{infinity}
 use Rattle.tables.specs.Layout.{childWord, recordWord, processField, operationField, keyField}
 use Rattle.tables.specs.declared.header.Header.{Header}
+use Rattle.nodes.specs.Pending.{pendingOf}
 use Rattle.nodes.specs.declared.pending.Pending.the-variants.{Clean}
 use Rattle.process.specs.declared.Process.{Process}
 use Rattle.process.specs.declared.Answer.{Answer}
@@ -19,31 +20,36 @@ use Rattle.process.specs.Answer.{goingOn, endingOf}
 use Rattle.help.specs.Help.{helpedL, helpedP, helpedThird}
 use Rattle.history.specs.View.{In, Holds}
 use Rattle.history.specs.Shared.{Shared, Done, Stands}
+use Rattle.history.specs.Effects.{Swapped}
 use Rattle.history.specs.Run.{Step, rests, Run, step-swaps, Moment}
 use Rattle.history.proofs.Invariant.{Sound}
 use Rattle.history.proofs.Runs.{sound-at}
+use Rattle.history.proofs.Newer.{Been, been-used, seen-new}
 use Rattle.history.proofs.Descent.{Way, at-root, way-root}
 use Rattle.history.proofs.Knows.{Mind, KnowsAt, Descends, Serves}
 use Rattle.link.specs.Tables.{tablesOf, stackOf}
 use Rattle.link.proofs.Writes.{Fit, writes-none, tables-same}
-use Rattle.link.proofs.Minds.{mindOf, Held, HeldBy, Counters, CountersBy}
+use Rattle.link.proofs.Checks.{Late, word-late}
+use Rattle.link.proofs.Minds.{mindOf, Held, HeldBy, NewerBy, newer-root, Counters, CountersBy}
 
 -- the tables at each moment
 abbrev pub tables : (ℕ → Header) → (ℕ → List ℕ) → ℕ → Shared
 tables hs bs m = tablesOf (hs m) (bs m)
 
--- moment j: what all processes share
+-- moment j: what all processes share. (A record from before moment 0 may name any process.)
 pub record Now (hs : ℕ → Header) (bs : ℕ → List ℕ) (j : ℕ) : Type 0 where
   pub fit : Fit (hs j) (bs j)
   pub run : Run (hs j .k) (tables hs bs) j
   pub first : Sound (hs j .k) (tables hs bs 0)
-  pub owners : (r : ℕ) → In (hs j .recordsused) r → In (hs j .processes) (recordWord (bs j) (hs j) r processField)
+  pub none-stood : (r : ℕ) → In (hs 0 .recordsused) r → ¬ Stands (tables hs bs 0 .view) (tables hs bs 0 .rec r) r
+  pub owners : (r : ℕ) → hs 0 .recordsused < r → r ≤ hs j .recordsused → In (hs j .processes) (recordWord (bs j) (hs j) r processField)
 
 -- what process n has, busy since moment i with record q
 pub record Busy (hs : ℕ → Header) (bs : ℕ → List ℕ) (i j n : ℕ) (q : Process) : Type 0 where
   pub since : i ≤ j
   pub place : In (hs j .processes) n
   pub held : HeldBy (hs j .k) (tables hs bs j) q
+  pub newer : NewerBy (hs 0 .recordsused) (stackOf (hs j) (bs j) n) q
   pub counters : CountersBy (hs j .k) q
   pub knows : KnowsAt (hs j .k) (tables hs bs) i j (mindOf (hs j) (bs j) n q) (q .point)
 
@@ -63,17 +69,18 @@ Frees hs bs j h′ b′ q = q .own ≢ 0 → ¬ Stands (tablesOf h′ b′ .view
 
 -- what the process has after its row: known at this moment already, so to be carried by the step; or at the next; or it has an answer
 pub data Follows (hs : ℕ → Header) (bs : ℕ → List ℕ) (i j n : ℕ) (h′ : Header) (b′ : List ℕ) (q : Process) (s : Stepped) : Type 0 where
-  already : (q′ : Process) → s ≡ goingOn q′ → (q′ .own ≢ q .own → Frees hs bs j h′ b′ q) → HeldBy (hs j .k) (tables hs bs j) q′ → CountersBy (hs j .k) q′
+  already : (q′ : Process) → s ≡ goingOn q′ → (q′ .own ≢ q .own → Frees hs bs j h′ b′ q) → HeldBy (hs j .k) (tables hs bs j) q′ → NewerBy (hs 0 .recordsused) (stackOf h′ b′ n) q′ → CountersBy (hs j .k) q′
       → KnowsAt (hs j .k) (tables hs bs) i j (mindOf h′ b′ n q′) (q′ .point) → Follows hs bs i j n h′ b′ q s
-  afterwards : (q′ : Process) → s ≡ goingOn q′ → (q′ .own ≢ q .own → Frees hs bs j h′ b′ q) → HeldBy (hs j .k) (tablesOf h′ b′) q′ → CountersBy (hs j .k) q′ → 6 ≤ q′ .point
+  afterwards : (q′ : Process) → s ≡ goingOn q′ → (q′ .own ≢ q .own → Frees hs bs j h′ b′ q) → HeldBy (hs j .k) (tablesOf h′ b′) q′ → NewerBy (hs 0 .recordsused) (stackOf h′ b′ n) q′ → CountersBy (hs j .k) q′ → 6 ≤ q′ .point
       → Serves (hs j .k) (tablesOf h′ b′) (mindOf h′ b′ n q′) (q′ .point) → Follows hs bs i j n h′ b′ q s
   answers : (a : Answer) → s ≡ endingOf q a → Frees hs bs j h′ b′ q → Why (hs j .k) (tables hs bs) i j n q a → Follows hs bs i j n h′ b′ q s
 
--- whose child swap a step is: of the record helped, at 7 or 13, where the compare holds; else nobody's
+-- whose child swap a step is, and of which word: of the record helped, at 7 or 13, where the compare holds; else nobody's
 pub data Swapper (hs : ℕ → Header) (bs : ℕ → List ℕ) (j : ℕ) (q : Process) (s′ : Shared) (c : Step (hs j .k) (tables hs bs j) s′) : Type 0 where
-  at-7 : q .point ≡ 7 → childWord (bs j) (hs j) (helpedP (bs j) (hs j) q) (q .index) ≡ helpedL (bs j) (hs j) q → step-swaps (hs j .k) c ≡ q .helped → Swapper hs bs j q s′ c
+  at-7 : q .point ≡ 7 → childWord (bs j) (hs j) (helpedP (bs j) (hs j) q) (q .index) ≡ helpedL (bs j) (hs j) q → step-swaps (hs j .k) c ≡ q .helped
+      → Swapped (hs j .k) (tables hs bs j) s′ (tables hs bs j .rec (q .helped)) (q .index) (q .other) → Swapper hs bs j q s′ c
   at-13 : q .point ≡ 13 → childWord (bs j) (hs j) (helpedThird (bs j) (hs j) q) (q .index) ≡ helpedP (bs j) (hs j) q → step-swaps (hs j .k) c ≡ q .helped
-      → Swapper hs bs j q s′ c
+      → Swapped (hs j .k) (tables hs bs j) s′ (tables hs bs j .rec (q .helped)) (q .index) (q .other) → Swapper hs bs j q s′ c
   nobody : (q .point ≡ 7 → childWord (bs j) (hs j) (helpedP (bs j) (hs j) q) (q .index) ≢ helpedL (bs j) (hs j) q)
       → (q .point ≡ 13 → childWord (bs j) (hs j) (helpedThird (bs j) (hs j) q) (q .index) ≢ helpedP (bs j) (hs j) q) → step-swaps (hs j .k) c ≡ 0 → Swapper hs bs j q s′ c
 
@@ -84,7 +91,7 @@ pub record Shift (hs : ℕ → Header) (bs : ℕ → List ℕ) (j n : ℕ) (h′
   pub processes-same : h′ .processes ≡ hs j .processes
   pub step : Step (hs j .k) (tables hs bs j) (tablesOf h′ b′)
   pub stacks : (m : ℕ) → In (hs j .processes) m → m ≢ n → stackOf h′ b′ m ≡ stackOf (hs j) (bs j) m
-  pub owners′ : (r : ℕ) → In (h′ .recordsused) r → In (h′ .processes) (recordWord b′ h′ r processField)
+  pub owners′ : (r : ℕ) → hs 0 .recordsused < r → r ≤ h′ .recordsused → In (h′ .processes) (recordWord b′ h′ r processField)
   pub drawn-by : (r : ℕ) → hs j .recordsused < r → r ≤ h′ .recordsused → recordWord b′ h′ r processField ≡ n
 
 -- what a row gives: it is sound; what it is for all; whose child swap it is; what a new record is to its process; what follows
@@ -103,6 +110,12 @@ module _ {hs : ℕ → Header} {bs : ℕ → List ℕ} {j : ℕ} (now : Now hs b
 
   pub now-sound : Sound (hs j .k) (tables hs bs j)
   now-sound = sound-at k-low (now .run) (now .first) j (omega arith)
+
+  -- a value read from a node that has been in the tree
+  pub late-at : {n : ℕ} → Been (hs j .k) (tables hs bs) j n → Late (hs 0 .recordsused) (pendingOf (tables hs bs j .view .pend n))
+  late-at {n} w =
+      word-late (hs 0 .recordsused) (now-sound .inv .pending n (been-used k-low (now .run) (now .first) (omega arith) w))
+      (seen-new k-low (now .run) (now .first) (now .none-stood) j n (omega arith) w)
 
   -- a row that touches nothing
   pub same-self : Step (hs j .k) (tables hs bs j) (tables hs bs j)
@@ -185,4 +198,4 @@ counters-root {k} a c f l = record {
 pub restarts : {hs : ℕ → Header} {bs : ℕ → List ℕ} {i j : ℕ} (n : ℕ) (now : Now hs bs j) (q q₀ : Process) (h′ : Header) (b′ : List ℕ) → Frees hs bs j h′ b′ q → i ≤ j → CountersBy (hs j .k) q₀
     → Follows hs bs i j n h′ b′ q (goingOn (restartedOf q₀))
 restarts {hs} {bs} {i} {j} n now q q₀ h′ b′ free l c =
-    already (restartedOf q₀) refl (λ d. free) (held-root now) (counters-root (c .op-low) (c .op-high) (c .finite) (k-low now)) (descends-root now i (mindOf h′ b′ n (restartedOf q₀)) l refl refl)
+    already (restartedOf q₀) refl (λ d. free) (held-root now) newer-root (counters-root (c .op-low) (c .op-high) (c .finite) (k-low now)) (descends-root now i (mindOf h′ b′ n (restartedOf q₀)) l refl refl)

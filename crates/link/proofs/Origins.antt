@@ -1,6 +1,6 @@
--- Every record in use comes from an operation: which step drew it, and the start that the step goes back to.
+-- Every record drawn since the beginning comes from an operation: which step drew it, and the start that the step goes back to.
 use Prim.Native.Nat.{ℕ, zero, suc, _+_, _≤_, _<_}
-use mathlib.Core.Path.{_≡_, ap, _∙_}
+use mathlib.Core.Path.{_≡_, ap, _∙_, subst}
 use mathlib.Core.Logic.{_≢_}
 use mathlib.Core.Bool.{true}
 use mathlib.Core.List.{List}
@@ -17,13 +17,22 @@ use Rattle.history.specs.View.{In}
 use Rattle.history.specs.Shared.{Desc, Shared}
 use Rattle.history.proofs.Swapping.{DrawnAt, drawn-between}
 use Rattle.link.specs.Tables.{descOf}
-use Rattle.link.specs.Events.{Event, step, State, taken, eventAt, stateAt, blockAt, headerAt, Proper, AllProper, empty, also, freshState}
-use Rattle.link.proofs.Moments.{tables}
-use Rattle.link.proofs.Reached.{its-turn, taken-own, state-is, block-is, header-is}
+use Rattle.link.specs.Events.{Event, step, State, taken, eventAt, stateAt, blockAt, headerAt, sinceAt, Proper, AllProper, empty, also, freshState}
+use Rattle.link.specs.Swaps.{Swapping, seven, thirteen, ChildSwap}
+use Rattle.link.specs.Operations.{Draws}
+use Rattle.link.proofs.Moments.{tables, Busy}
+use Rattle.link.proofs.Searching.{known}
+use Rattle.link.proofs.Reached.{at-work, its-turn, taken-own, state-is, block-is, header-is}
 use Rattle.link.proofs.Outcomes.{Outcome, nothing, begun, moved, outcome}
-use Rattle.link.proofs.Beginning.{Rested, fresh-rested}
+use Rattle.link.proofs.Beginning.{Settled, fresh-settled}
 use Rattle.link.proofs.Clauses.{Reached, good, hk, run, sound₀, grows}
 use Rattle.link.proofs.Story.{Story, story}
+use Rattle.link.proofs.Answers.{Drawn}
+
+-- record r is in use at moment m, and was drawn since the beginning
+pub record NewAt (s : State) (es : List Event) (m r : ℕ) : Type 0 where
+  pub low : tables (headerAt s es) (blockAt s es) 0 .records < r
+  pub high : r ≤ tables (headerAt s es) (blockAt s es) m .records
 
 -- record r, as it stands at moment m: the step that drew it, and the operation and key that it was drawn for
 pub record Comes (s : State) (es : List Event) (m r : ℕ) : Type 0 where
@@ -47,9 +56,28 @@ module _ {s : State} {es : List Event} (reached : Reached s es) where
   abbrev S : ℕ → Shared
   S = tables (headerAt s es) (blockAt s es)
 
-  pub comes : (m r : ℕ) → In (S m .records) r → Comes s es m r
-  unfolding stateAt
-  comes m r u = from (drawn-between (hk reached) (run reached m) (sound₀ reached) 0 m r (omega arith) (omega arith) (omega (arith, reached .rest .rest .no-record, u .low)) (u .high))
+  -- a record that is drawn; one drawn since a moment; one that is swapped
+  pub new-drawn : (m n r : ℕ) → Draws s es m n r → NewAt s es (suc m) r
+  new-drawn m n r d = record { low = omega (arith, d .next, grows reached 0 m (omega arith) .records-more); high = omega (arith, d .counted) }
+
+  pub new-since : (i m n r : ℕ) → Drawn s es i m n r → NewAt s es m r
+  new-since i m n r d = record { low = omega (arith, d .late, grows reached 0 i (omega arith) .records-more); high = d .used .high }
+
+  pub new-swapped : (m r : ℕ) → ChildSwap s es m r → NewAt s es m r
+  new-swapped m r w = subst (NewAt s es m) (w .helps) (record { low = y .newer .helped-late (λ z. omega (arith, used (w .swapping) .low)); high = used (w .swapping) .high })
+    where
+      q : Process
+      q = taken (W m) (w .process)
+
+      y : Busy (headerAt s es) (blockAt s es) (sinceAt s es (w .process) m) m (w .process) (taken (W m) (w .process))
+      y = at-work (w .busy) (good reached m .each (w .process) (w .exists))
+
+      used : Swapping (blockAt s es m) (headerAt s es m) (taken (W m) (w .process)) → In (S m .records) (taken (W m) (w .process) .helped)
+      used (seven p x) = known (good reached m .now) q y 7 p .used
+      used (thirteen p x) = known (good reached m .now) q y 13 p .used
+
+  pub comes : (m r : ℕ) → NewAt s es m r → Comes s es m r
+  comes m r u = from (drawn-between (hk reached) (run reached m) (sound₀ reached) 0 m r (omega arith) (omega arith) (u .low) (u .high))
     where
       from : DrawnAt S r 0 m → Comes s es m r
       from d = go (outcome (good reached (d .when)))
@@ -94,12 +122,12 @@ module _ {s : State} {es : List Event} (reached : Reached s es) where
 
               later : S m .rec r ≡ descOf (its-turn (good reached (d .when)) n v z b e .h′) (rowOf (blockAt s es (d .when)) (headerAt s es (d .when)) n (taken (W (d .when)) n) .block) r
               later =
-                  grows reached (suc (d .when)) m (d .before) .rec-same r (omega (arith, u .low, d .drawn))
+                  grows reached (suc (d .when)) m (d .before) .rec-same r (omega (arith, d .drawn))
                   ∙ ap (λ (x : List ℕ). descOf (headerAt s es (suc (d .when))) x r) (block-is (good reached (d .when)) n v z b e)
                   ∙ ap (λ (x : Header). descOf x (rowOf (blockAt s es (d .when)) (headerAt s es (d .when)) n (taken (W (d .when)) n) .block) r) (header-is (good reached (d .when)) n v z b e)
 
   -- the start behind a record
-  pub started-by : (m r : ℕ) (u : In (S m .records) r) → Story s es (comes m r u .when) (comes m r u .n)
+  pub started-by : (m r : ℕ) (u : NewAt s es m r) → Story s es (comes m r u .when) (comes m r u .n)
   started-by m r u = story reached (comes m r u .when) (comes m r u .n) (comes m r u .place) (comes m r u .busy)
 
 proper-at : {es : List Event} → AllProper es → (m : ℕ) → Proper (eventAt es m)
@@ -107,10 +135,10 @@ proper-at empty m = omega arith
 proper-at (also x p) zero = x
 proper-at (also x p) (suc m) = proper-at p m
 
--- a state at rest, then a list of events; the fresh tree is one
-pub reached-rest : {s : State} {es : List Event} → Rested s → AllProper es → Reached s es
-reached-rest r p = record { rest = r; proper = proper-at p }
+-- a settled state, then a list of events; the fresh tree is one
+pub reached-settled : {s : State} {es : List Event} → Settled s → AllProper es → Reached s es
+reached-settled r p = record { settled = r; proper = proper-at p }
 
 pub reached-fresh : (k processes nodes records : ℕ) (b : List ℕ) (row : List Process) {es : List Event} → numbersGood (kStored k) processes nodes records ≡ true
     → blockWords (freshHeader k processes nodes records) ≤ length b → processes ≤ length row → AllProper es → Reached (freshState k processes nodes records b row) es
-reached-fresh k processes nodes records b row good long rows proper = reached-rest (fresh-rested k processes nodes records good b long row rows) proper
+reached-fresh k processes nodes records b row good long rows proper = reached-settled (fresh-settled k processes nodes records good b long row rows) proper

@@ -35,8 +35,8 @@ pub data Outcome (s : State) (es : List Event) (m : ℕ) : Type 0 where
 
 follows-answered : {hs : ℕ → Header} {bs : ℕ → List ℕ} {i j n : ℕ} {h′ : Header} {b′ : List ℕ} {q : Process} {s : Stepped} → Follows hs bs i j n h′ b′ q s
     → isAnswered (s .answer) ≡ true
-follows-answered (already q′ e fr x y z) = ap (λ (t : Stepped). isAnswered (t .answer)) e
-follows-answered (afterwards q′ e fr x y l z) = ap (λ (t : Stepped). isAnswered (t .answer)) e
+follows-answered (already q′ e fr x v y z) = ap (λ (t : Stepped). isAnswered (t .answer)) e
+follows-answered (afterwards q′ e fr x v y l z) = ap (λ (t : Stepped). isAnswered (t .answer)) e
 follows-answered (answers a e fr w) = ap (λ (t : Stepped). isAnswered (t .answer)) e
 
 module _ {s : State} {es : List Event} {m : ℕ} (good : Good s es m) where

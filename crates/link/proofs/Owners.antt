@@ -1,4 +1,4 @@
--- A record that stands is the own record of a busy process: so when all are idle, every node of the tree is clean.
+-- A record that stands is the own record of a busy process: so when all are idle, every node of the tree is clean, and the state is settled.
 use Prim.Native.Nat.{ℕ, zero, suc, _*_, _≤_, _<_}
 use mathlib.Core.Path.{_≡_, sym, ap, _∙_, subst}
 use mathlib.Core.Logic.{_≢_}
@@ -15,12 +15,14 @@ use Rattle.link.proofs.Calls.{stepDoneIn}
 use Rattle.history.specs.View.{In, Reach}
 use Rattle.history.specs.Shared.{Desc, Shared, Stands}
 use Rattle.history.proofs.Quiet.{stands-before, quiet-clean}
+use Rattle.history.proofs.Newer.{stands-new}
 use Rattle.link.specs.Tables.{tablesOf}
 use Rattle.link.specs.Events.{Event, step, State, taken, stepIn, eventAt, stateAt, blockAt, headerAt, sinceAt}
-use Rattle.link.proofs.Moments.{tables, Busy, Frees, Follows, already, afterwards, answers}
+use Rattle.link.proofs.Moments.{tables, Busy, Frees, Follows, already, afterwards, answers, now-sound}
 use Rattle.link.proofs.Reached.{its-turn, taken-own, taken-other, state-is, block-is, header-is}
+use Rattle.link.proofs.Beginning.{Settled}
 use Rattle.link.proofs.Outcomes.{Outcome, nothing, begun, moved, outcome}
-use Rattle.link.proofs.Clauses.{Reached, good, hk, sound, step-at, grows}
+use Rattle.link.proofs.Clauses.{Reached, good, hk, run, sound₀, sound, step-at, grows}
 
 -- at moment m process n is busy, and r is its own record
 pub record Owned (s : State) (es : List Event) (m n r : ℕ) : Type 0 where
@@ -80,9 +82,9 @@ module _ {s : State} {es : List Event} (reached : Reached s es) where
         on q′ a c l f (no d) = absurd (frees (f d))
 
         go : Follows hs bs (sinceAt s es n m) m n h′ row-block q row-stepped → Owned s es (suc m) n r
-        go (already q′ x f p c y) =
+        go (already q′ x f p new c y) =
             on q′ (ap (λ (t : Stepped). t .process .own) x) (ap (λ (t : Stepped). t .process .operation) x) (c .op-low) f (ℕ-discrete (q′ .own) (q .own))
-        go (afterwards q′ x f p c l y) =
+        go (afterwards q′ x f p new c l y) =
             on q′ (ap (λ (t : Stepped). t .process .own) x) (ap (λ (t : Stepped). t .process .operation) x) (c .op-low) f (ℕ-discrete (q′ .own) (q .own))
         go (answers a x f y) = absurd (frees f)
 
@@ -109,24 +111,30 @@ module _ {s : State} {es : List Event} (reached : Reached s es) where
         }
 
         go : Follows hs bs (sinceAt s es n m) m n h′ row-block q row-stepped → Owned s es (suc m) n r
-        go (already q′ x f p c y) = on q′ (ap (λ (t : Stepped). t .process .operation) x) (c .op-low)
-        go (afterwards q′ x f p c a y) = on q′ (ap (λ (t : Stepped). t .process .operation) x) (c .op-low)
+        go (already q′ x f p new c y) = on q′ (ap (λ (t : Stepped). t .process .operation) x) (c .op-low)
+        go (afterwards q′ x f p new c a y) = on q′ (ap (λ (t : Stepped). t .process .operation) x) (c .op-low)
         go (answers a x f y) = absurd (let d : row-stepped .process .own ≡ 0 = ap (λ (t : Stepped). t .process .own) x in omega (arith, is))
 
   owned-same : (m n r : ℕ) → taken (W (suc m)) n ≡ taken (W m) n → Owned s es m n r → Owned s es (suc m) n r
   owned-same m n r e o = record { busy = λ x. o .busy (ap (λ (p : Process). p .operation) (sym e) ∙ x); own = ap (λ (p : Process). p .own) e ∙ o .own }
 
-  -- a record that stands is its process's own record, and the process is busy
+  -- a record that stands was drawn since the beginning, so its process exists
+  owner : (m r : ℕ) → In (S m .records) r → Stands (S m .view) (S m .rec r) r → In (hs m .processes) (S m .rec r .process)
+  owner m r u w =
+      let now = good reached m .now in
+      now .owners r (stands-new (hk reached) (run reached m) (sound₀ reached) (now .none-stood) m r (omega arith) u w) (u .high)
+
+  -- it is that process's own record, and the process is busy
   pub owned : (m r : ℕ) → In (S m .records) r → Stands (S m .view) (S m .rec r) r → Owned s es m (S m .rec r .process) r
   unfolding stateAt
-  owned zero r u w = absurd (omega (arith, reached .rest .rest .no-record, u .low, u .high))
+  owned zero r u w = absurd (reached .settled .none-stands r u w)
   owned (suc m) r u w = go (decLe r (S m .records)) (outcome (good reached m)) (λ (x : In (S m .records) r) (y : Stands (S m .view) (S m .rec r) r). owned m r x y)
     where
       none : bs (suc m) ≡ bs m → S m .records < r → ⊥
       none e l = let x : S (suc m) .records ≡ S m .records = ap (λ (v : List ℕ). headerOf v .recordsused) e in omega (arith, u .high)
 
-      old : (v : In (S m .records) r) → Owned s es m (S m .rec r .process) r → Outcome s es m → Owned s es (suc m) (S (suc m) .rec r .process) r
-      old v o c = subst (λ (x : Desc). Owned s es (suc m) (x .process) r) (sym (grows reached m (suc m) (omega arith) .rec-same r v)) (by c)
+      old : (v : In (S m .records) r) → Stands (S m .view) (S m .rec r) r → Owned s es m (S m .rec r .process) r → Outcome s es m → Owned s es (suc m) (S (suc m) .rec r .process) r
+      old v st o c = subst (λ (x : Desc). Owned s es (suc m) (x .process) r) (sym (grows reached m (suc m) (omega arith) .rec-same r v)) (by c)
         where
           by : Outcome s es m → Owned s es (suc m) (S m .rec r .process) r
           by (nothing e f g) = owned-same m (S m .rec r .process) r (ap (λ (x : State). taken x (S m .rec r .process)) e) o
@@ -136,7 +144,7 @@ module _ {s : State} {es : List Event} (reached : Reached s es) where
               at (yes x) = absurd (o .busy (ap (λ (y : ℕ). taken (W m) y .operation) x ∙ d))
               at (no x) =
                   owned-same m (S m .rec r .process) r
-                  (taken-other (good reached m) p (bs m) (startedAs operation key) e a (S m .rec r .process) (good reached m .now .owners r v .low) x) o
+                  (taken-other (good reached m) p (bs m) (startedAs operation key) e a (S m .rec r .process) (owner m r v st .low) x) o
           by (moved p a z b e f g g′) = at (ℕ-discrete (S m .rec r .process) p)
             where
               at : Dec (S m .rec r .process ≡ p) → Owned s es (suc m) (S m .rec r .process) r
@@ -145,7 +153,7 @@ module _ {s : State} {es : List Event} (reached : Reached s es) where
               at (no x) =
                   owned-same m (S m .rec r .process) r
                   (taken-other (good reached m) p (rowOf (bs m) (hs m) p (taken (W m) p) .block) (rowOf (bs m) (hs m) p (taken (W m) p) .stepped .process) (state-is (good reached m) p a z b e) a
-                  (S m .rec r .process) (good reached m .now .owners r v .low) x) o
+                  (S m .rec r .process) (owner m r v st .low) x) o
 
       new : S m .records < r → Outcome s es m → Owned s es (suc m) (S (suc m) .rec r .process) r
       new l (nothing e f g) = absurd (none (ap (λ (x : State). x .block) e) l)
@@ -158,11 +166,24 @@ module _ {s : State} {es : List Event} (reached : Reached s es) where
           → Owned s es (suc m) (S (suc m) .rec r .process) r
       go (yes l) c ih =
           let v : In (S m .records) r = omega (arith, u .low) in
-          old v (ih v (stands-before (hk reached) (sound reached m) (step-at reached m) r v w)) c
+          let st = stands-before (hk reached) (sound reached m) (step-at reached m) r v w in
+          old v st (ih v st) c
       go (no l) c ih = new (omega arith) c
 
-  -- with all processes idle every node of the tree is clean
-  pub all-clean : (m : ℕ) → ((n : ℕ) → In (hs m .processes) n → taken (W m) n .operation ≡ 0) → (n : ℕ) → Reach (hs 0 .k) (S m .view) n
-      → (c : ℕ) × (S m .view .pend n ≡ 4 * c)
-  all-clean m idle n o =
-      quiet-clean (hk reached) (sound reached m) (λ r u w. owned m r u w .busy (idle (S m .rec r .process) (good reached m .now .owners r u))) n o
+  -- with all processes idle no record stands, and every node of the tree is clean
+  module _ (m : ℕ) (idle : (n : ℕ) → In (hs m .processes) n → taken (W m) n .operation ≡ 0) where
+    none-stand : (r : ℕ) → In (S m .records) r → ¬ Stands (S m .view) (S m .rec r) r
+    none-stand r u w = owned m r u w .busy (idle (S m .rec r .process) (owner m r u w))
+
+    pub all-clean : (n : ℕ) → Reach (hs 0 .k) (S m .view) n → (c : ℕ) × (S m .view .pend n ≡ 4 * c)
+    all-clean n o = quiet-clean (hk reached) (sound reached m) none-stand n o
+
+    -- so a list of events may begin there
+    pub settled-at : Settled (W m)
+    settled-at = record {
+      fit = good reached m .now .fit;
+      rows = good reached m .rows;
+      idle-all = idle;
+      sound = now-sound (good reached m .now);
+      none-stands = none-stand;
+    }

@@ -23,11 +23,12 @@ use Rattle.points.specs.Rows.{rowOf}
 use Rattle.index.specs.Calls.{StartOut, StepOut}
 use Rattle.help.specs.Help.{helpedL, helpedP, helpedThird}
 use Rattle.history.specs.View.{In}
+use Rattle.history.specs.Effects.{Swapped}
 use Rattle.history.specs.Run.{Step, step-swaps}
 use Rattle.link.specs.Tables.{tablesOf}
 use Rattle.link.specs.Events.{Event, start, step, State, taken, startIn, stepIn, after, eventAt, stateAt, blockAt, headerAt, Proper, isAccepted, starts, sinceAt}
 use Rattle.link.specs.Swaps.{Swapping, seven, thirteen, ChildSwap}
-use Rattle.link.proofs.Minds.{mindOf}
+use Rattle.link.proofs.Minds.{mindOf, newer-root}
 use Rattle.link.proofs.Moments.{tables, Now, Busy, Swapper, at-7, at-13, nobody, Shift, Turn, shift-self, same-self, same-none, k-low, held-root, descends-root, counters-root}
 use Rattle.link.proofs.Searching.{known}
 use Rattle.link.proofs.Stepping.{turn, step-sound}
@@ -64,15 +65,15 @@ pub since-stays : (s : State) (es : List Event) (m n : ℕ) (e : Event) → even
 unfolding pick
 since-stays s es m n e z f = since-next s es m n e false z f
 
--- whose child swap the step from moment m is, in the words of the events
+-- whose child swap the step from moment m is, and of which word, in the words of the events
 pub data Kind (s : State) (es : List Event) (m k : ℕ) (c : Step k (tables (headerAt s es) (blockAt s es) m) (tables (headerAt s es) (blockAt s es) (suc m))) : Type 0 where
   no-swap : step-swaps k c ≡ 0 → ((r : ℕ) → ¬ ChildSwap s es m r) → Kind s es m k c
-  swap-of : (r : ℕ) → 1 ≤ r → ChildSwap s es m r → step-swaps k c ≡ r → Kind s es m k c
+  swap-of : (r : ℕ) → 1 ≤ r → (w : ChildSwap s es m r) → step-swaps k c ≡ r
+      → Swapped k (tables (headerAt s es) (blockAt s es) m) (tables (headerAt s es) (blockAt s es) (suc m)) (tables (headerAt s es) (blockAt s es) m .rec r)
+      (taken (stateAt s es m) (w .process) .index) (taken (stateAt s es m) (w .process) .other) → Kind s es m k c
 
 -- an event as a step of the history
 pub record Move (s : State) (es : List Event) (m : ℕ) : Type 0 where
-  pub k-same : headerAt s es (suc m) .k ≡ headerAt s es m .k
-  pub processes-same : headerAt s es (suc m) .processes ≡ headerAt s es m .processes
   pub step : Step (headerAt s es m .k) (tables (headerAt s es) (blockAt s es) m) (tables (headerAt s es) (blockAt s es) (suc m))
   pub kind : Kind s es m (headerAt s es m .k) step
 
@@ -119,12 +120,7 @@ module _ {s : State} {es : List Event} {m : ℕ} (good : Good s es m) where
       none = same-none (good .now)
 
       put : (x : Step (hs m .k) (tables hs bs m) (tables hs bs (suc m))) × (step-swaps (hs m .k) x ≡ 0) → Move s es m
-      put x = record {
-        k-same = ap (λ (c : List ℕ). headerOf c .k) e;
-        processes-same = ap (λ (c : List ℕ). headerOf c .processes) e;
-        step = x .0;
-        kind = no-swap (x .1) f;
-      }
+      put x = record { step = x .0; kind = no-swap (x .1) f }
 
   -- the row with one record put back
   module _ (n : ℕ) (b′ : List ℕ) (q′ : Process) (e : W (suc m) ≡ putBack (W m) b′ n q′) (u : In (hs m .processes) n) where
@@ -201,12 +197,8 @@ module _ {s : State} {es : List Event} {m : ℕ} (good : Good s es m) where
     swaps-by w = record { process = n; event = z; exists = u; busy = λ x. omega (arith, y .counters .op-low); helps = refl; swapping = w }
 
     moved : Move s es m
-    moved = record {
-      k-same = its-shift .k-same;
-      processes-same = its-shift .processes-same;
-      step = both-parts .0;
-      kind = go (both-parts .1);
-    }
+    unfolding swaps-by
+    moved = record { step = both-parts .0; kind = go (both-parts .1) }
       where
         nobody-swaps : (q .point ≡ 7 → childWord (bs m) (hs m) (helpedP (bs m) (hs m) q) (q .index) ≢ helpedL (bs m) (hs m) q)
             → (q .point ≡ 13 → childWord (bs m) (hs m) (helpedThird (bs m) (hs m) q) (q .index) ≢ helpedP (bs m) (hs m) q)
@@ -219,8 +211,8 @@ module _ {s : State} {es : List Event} {m : ℕ} (good : Good s es m) where
             no (thirteen p x) = c p x
 
         go : Swapper hs bs m q (tables hs bs (suc m)) (both-parts .0) → Kind s es m (hs m .k) (both-parts .0)
-        go (at-7 p x v) = swap-of (q .helped) (known (good .now) q y 7 p .used .low) (swaps-by (seven p x)) v
-        go (at-13 p x v) = swap-of (q .helped) (known (good .now) q y 13 p .used .low) (swaps-by (thirteen p x)) v
+        go (at-7 p x v f) = swap-of (q .helped) (known (good .now) q y 7 p .used .low) (swaps-by (seven p x)) v f
+        go (at-13 p x v f) = swap-of (q .helped) (known (good .now) q y 13 p .used .low) (swaps-by (thirteen p x)) v f
         go (nobody a c v) = no-swap v (nobody-swaps a c)
 
   -- a start that is accepted
@@ -259,6 +251,7 @@ module _ {s : State} {es : List Event} {m : ℕ} (good : Good s es m) where
           since = omega arith;
           place = subst (λ (x : ℕ). In x n) (sym (same-shift .processes-same)) u;
           held = held-root next;
+          newer = newer-root;
           counters = counters-root low high fin (k-low next);
           knows = descends-root next (suc m) (mindOf (hs (suc m)) (bs (suc m)) n (startedAs operation key)) (omega arith) refl refl;
         }

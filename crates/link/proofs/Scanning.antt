@@ -114,7 +114,7 @@ module _ {hs : ℕ → Header} {bs : ℕ → List ℕ} {i j n : ℕ} (now : Now 
 
   on : q .index < k → Follows hs bs i j n h b q (goingOn (withIndex (withMask q mask′) (q .index + 1)))
   on l =
-      already (withIndex (withMask q mask′) (q .index + 1)) refl (λ d. absurd (d refl)) (y .held)
+      already (withIndex (withMask q mask′) (q .index + 1)) refl (λ d. absurd (d refl)) (y .held) (y .newer)
       (counters-early (q .point) (q .index + 1) mask′ (y .counters) (omega arith) (omega arith) (omega arith) (λ z. absurd (omega (arith, delete))) (λ z. absurd (omega (arith, delete)))
       (λ z. absurd (omega (arith, delete))) (omega arith) mask-small (λ z. subst (λ (m : ℕ). mask′ < 2 ^ m) same (bit .small)))
       (subst (λ (m : ℕ). KnowsAt k S i j (mindOf h b n (withIndex (withMask q mask′) (q .index + 1))) m) (sym e₃)
@@ -126,13 +126,13 @@ module _ {hs : ℕ → Header} {bs : ℕ → List ℕ} {i j n : ℕ} (now : Now 
   last : q .index ≡ k → (t : Bool) → both (eqb (ones mask′) 2) (eqb (tagWord b h (q .l)) 1) ≡ t → Follows hs bs i j n h b q (goingOn (withPoint (withMask q mask′) (pick t 5 4)))
   unfolding pick
   last z true x =
-      already (withPoint (withMask q mask′) 5) refl (λ d. absurd (d refl)) (y .held)
+      already (withPoint (withMask q mask′) 5) refl (λ d. absurd (d refl)) (y .held) (y .newer)
       (counters-early 5 (q .index) mask′ (y .counters) (omega arith) (omega arith) (omega arith) (λ v. absurd (omega (arith, delete))) (λ v. absurd (omega (arith, delete)))
       (λ v. absurd (omega (arith, delete))) (y .counters .index-high) mask-small (λ v. absurd (omega arith)))
       (row-3-prune (mindOf h b n (withPoint (withMask q mask′) 5)) (k-low now) (now .run) (now .first) refl w refl refl refl refl refl (bit .counted) z
       (eqb-true (ones mask′) 2 (both-1 _ _ x)) (eqb-true (tagWord b h (q .l)) 1 (both-2 _ _ x)))
   last z false x =
-      already (withPoint (withMask q mask′) 4) refl (λ d. absurd (d refl)) (y .held)
+      already (withPoint (withMask q mask′) 4) refl (λ d. absurd (d refl)) (y .held) (y .newer)
       (counters-early 4 (q .index) mask′ (y .counters) (omega arith) (omega arith) (omega arith) (λ v. absurd (omega (arith, delete))) (λ v. absurd (omega (arith, delete)))
       (λ v. absurd (omega (arith, delete))) (y .counters .index-high) mask-small (λ v. absurd (omega arith)))
       (row-3-replace (mindOf h b n (withPoint (withMask q mask′) 4)) (k-low now) (now .run) (now .first) refl w refl refl refl refl refl (bit .counted) delete)

@@ -30,15 +30,16 @@ use Rattle.points.specs.Rows.{touch2, row1, row2, insertAt, deleteAt, findAt, a
 use Rattle.history.specs.View.{In, route, keys}
 use Rattle.history.specs.Shared.{Shared}
 use Rattle.history.proofs.Invariant.{Sound}
+use Rattle.history.proofs.Newer.{been-on}
 use Rattle.history.proofs.Stacks.{Stacked, stack-empty}
 use Rattle.history.proofs.Descent.{Read, Above, at-root, above, child-used, child-above, leaf-below, leaf-has, leaf-lacks}
 use Rattle.history.proofs.Knows.{Mind, to-put, KnowsAt, Descends, Reads}
 use Rattle.history.proofs.Downward.{row-1, row-2-down, row-2-replace, row-2-count}
 use Rattle.link.specs.Tables.{stackOf}
 use Rattle.link.proofs.Keyed.{keys-are, route-are, holds-mem, holds-not, sorted-rises}
-use Rattle.link.proofs.Checks.{Names, word-names, kin-internal, kin-leaf, below-good, pending-good}
-use Rattle.link.proofs.Minds.{mindOf, HeldBy, Counters, CountersBy}
-use Rattle.link.proofs.Moments.{tables, Now, Busy, found, missing, there, not-there, Follows, already, answers, Turn, k-low, now-sound, quiet}
+use Rattle.link.proofs.Checks.{Names, Late, word-names, kin-internal, kin-leaf, below-good, pending-good}
+use Rattle.link.proofs.Minds.{mindOf, HeldBy, NewerBy, Counters, CountersBy}
+use Rattle.link.proofs.Moments.{tables, Now, Busy, found, missing, there, not-there, Follows, already, answers, Turn, k-low, now-sound, late-at, quiet}
 use Rattle.link.proofs.Seeing.{free, helps-on}
 
 -- the numbers of points 1 to 5
@@ -113,6 +114,12 @@ module _ {hs : ℕ → Header} {bs : ℕ → List ℕ} {i j n : ℕ} (now : Now 
         helped-good = y .held .helped-good;
         own-good = y .held .own-good;
       })
+      (record {
+        pseen-late = late-at now (been-on (k-low now) (now .run) (now .first) (w .way .was));
+        gseen-late = y .newer .gseen-late;
+        helped-late = y .newer .helped-late;
+        stack-late = y .newer .stack-late;
+      })
       (counters-early 2 (q .index) (q .mask) (y .counters) (omega arith) (omega arith) (omega arith) (λ z. omega arith) (λ z x. omega arith) (λ z x. omega arith) (y .counters .index-high)
       (y .counters .mask-high) (λ z. absurd (omega arith)))
       (row-1 (mindOf h b n (withPoint (withPSeen q seen) 2)) (k-low now) (now .run) (now .first) refl w refl refl refl (word-pending (pendingWord b h (q .p)))))
@@ -127,18 +134,19 @@ module _ {hs : ℕ → Header} {bs : ℕ → List ℕ} {i j n : ℕ} (now : Now 
       names = word-names (S j) (I .inv .pending (q .p) (w .way .used))
 
   -- a value read before, at depth 0
-  module _ (at : q .point ≤ 5) (busy : q .operation ≢ 1) (q₀ : Process) (c : CountersBy k q₀) (w : HeldBy k (S j) q₀) (same : q₀ .operation ≡ q .operation)
+  module _ (at : q .point ≤ 5) (busy : q .operation ≢ 1) (q₀ : Process) (c : CountersBy k q₀) (w : HeldBy k (S j) q₀)
+      (newer : NewerBy (hs 0 .recordsused) (stackOf h b n) q₀) (same : q₀ .operation ≡ q .operation)
       (empty : q₀ .depth ≡ 0) (none : q₀ .own ≡ 0) where
     own₀ : q₀ .own ≡ q .own
     own₀ = none ∙ sym (y .counters .early-own at)
 
-    pub helps-word : {a v : ℕ} → Read (S j) a v → (top : ℕ) → Follows hs bs i j n h b q (helping top q₀ (pendingOf v))
-    helps-word r top =
-        helps-on n now q q₀ b top (y .since) c w (λ z. busy (sym same ∙ z)) (subst (λ (x : ℕ). Stacked k (S j) (stackOf h b n) x) (sym empty) stack-empty) (free none)
-        (λ d e. absurd (omega arith)) own₀ (λ z x. absurd (x (y .counters .early-own at))) r (λ m e. record { next = λ d z. absurd (omega arith) })
+    pub helps-word : {a v : ℕ} → Read (S j) a v → Late (hs 0 .recordsused) (pendingOf v) → (top : ℕ) → Follows hs bs i j n h b q (helping top q₀ (pendingOf v))
+    helps-word r late top =
+        helps-on n now q q₀ b top (y .since) c w newer (λ z. busy (sym same ∙ z)) (subst (λ (x : ℕ). Stacked k (S j) (stackOf h b n) x) (sym empty) stack-empty) (free none)
+        (λ d e. absurd (omega arith)) own₀ (λ z x. absurd (x (y .counters .early-own at))) r late (λ m e. record { next = λ d z. absurd (omega arith) })
 
-    helps-early : {a : ℕ} (v : Pending) → Read (S j) a (wordOf v) → (top : ℕ) → Follows hs bs i j n h b q (helping top q₀ v)
-    helps-early v r top = subst (λ (x : Pending). Follows hs bs i j n h b q (helping top q₀ x)) (pending-word v) (helps-word r top)
+    helps-early : {a : ℕ} (v : Pending) → Read (S j) a (wordOf v) → Late (hs 0 .recordsused) v → (top : ℕ) → Follows hs bs i j n h b q (helping top q₀ v)
+    helps-early v r late top = subst (λ (x : Pending). Follows hs bs i j n h b q (helping top q₀ x)) (pending-word v) (helps-word r (rw (pending-word v) late) top)
 
   module _ (e₂ : q .point ≡ 2) where
     w₂ : Reads k S i j mind
@@ -171,6 +179,7 @@ module _ {hs : ℕ → Header} {bs : ℕ → List ℕ} {i j n : ℕ} (now : Now 
           helped-good = y .held .helped-good;
           own-good = y .held .own-good;
         })
+        (record { pseen-late = y .newer .pseen-late; gseen-late = y .newer .pseen-late; helped-late = y .newer .helped-late; stack-late = y .newer .stack-late })
         (counters-early 1 (q .index) (q .mask) (y .counters) (omega arith) (omega arith) (omega arith) (λ z. omega arith) (λ z x. omega arith) (λ z x. omega arith) (y .counters .index-high)
         (y .counters .mask-high) (λ z. absurd (omega arith)))
         (row-2-down (mindOf h b n (withPoint (descendedOf q child) 1)) (k-low now) (now .run) (now .first) refl w₂ got e refl refl refl)
@@ -209,9 +218,9 @@ module _ {hs : ℕ → Header} {bs : ℕ → List ℕ} {i j n : ℕ} (now : Now 
       up (at-root a d) = absurd (omega (arith, low))
       up (above u) = u .read
 
-      helps : q .operation ≢ 1 → {a : ℕ} (v : Pending) → Read (S j) a (wordOf v) → Follows hs bs i j n h b q (helping 0 (withL q child) v)
-      helps o v r =
-          helps-early (omega arith) o (withL q child) (y .counters) held refl (y .counters .early-depth (omega arith)) (y .counters .early-own (omega arith)) v r 0
+      helps : q .operation ≢ 1 → {a : ℕ} (v : Pending) → Read (S j) a (wordOf v) → Late (hs 0 .recordsused) v → Follows hs bs i j n h b q (helping 0 (withL q child) v)
+      helps o v r late =
+          helps-early (omega arith) o (withL q child) (y .counters) held (y .newer) refl (y .counters .early-depth (omega arith)) (y .counters .early-own (omega arith)) v r late 0
 
       finds : q .operation ≡ 1 → (t : Bool) → holds (q .key) (keysOf b h child (tagWord b h child)) ≡ t → Follows hs bs i j n h b q (findAt (withL q child) t)
       unfolding pick
@@ -225,7 +234,7 @@ module _ {hs : ℕ → Header} {bs : ℕ → List ℕ} {i j n : ℕ} (now : Now 
         where
           four : (c : ℕ) → q .pseen ≡ Clean c → Follows hs bs i j n h b q (goingOn (withPoint (withL q child) 4))
           four c z =
-              already (withPoint (withL q child) 4) refl (λ d. absurd (d refl)) held
+              already (withPoint (withL q child) 4) refl (λ d. absurd (d refl)) held (y .newer)
               (counters-early 4 (q .index) (q .mask) (y .counters) (omega arith) (omega arith) (omega arith) (λ x. absurd (omega arith)) (λ x v. omega arith) (λ x v. omega arith)
               (y .counters .index-high) (y .counters .mask-high) (λ x. absurd (omega arith)))
               (row-2-replace (mindOf h b n (withPoint (withL q child) 4)) (k-low now) (now .run) (now .first) refl w₂ got (y .counters .finite) not-inner c (clean-word (q .pseen) c z) refl refl refl
@@ -234,7 +243,7 @@ module _ {hs : ℕ → Header} {bs : ℕ → List ℕ} {i j n : ℕ} (now : Now 
           go : (t : Bool) → isCleanOf (q .pseen) ≡ t
               → Follows hs bs i j n h b q (pick t (goingOn (withPoint (withL q child) 4)) (helping 0 (withL q child) (q .pseen)))
           go true z = let c = clean-of (q .pseen) z in four (c .0) (c .1)
-          go false z = helps (λ x. omega arith) (q .pseen) (w₂ .read)
+          go false z = helps (λ x. omega arith) (q .pseen) (w₂ .read) (y .newer .pseen-late)
 
       deletes : q .operation ≡ 3 → (t : Bool) → holds (q .key) (keysOf b h child (tagWord b h child)) ≡ t → Follows hs bs i j n h b q (deleteAt (withL q child) t)
       unfolding pick ones onesIn
@@ -243,7 +252,7 @@ module _ {hs : ℕ → Header} {bs : ℕ → List ℕ} {i j n : ℕ} (now : Now 
         where
           three : (c g : ℕ) → q .pseen ≡ Clean c → q .gseen ≡ Clean g → Follows hs bs i j n h b q (goingOn (toThree (withL q child)))
           three c g z x =
-              already (toThree (withL q child)) refl (λ d. absurd (d refl)) held
+              already (toThree (withL q child)) refl (λ d. absurd (d refl)) held (y .newer)
               (counters-early 3 1 0 (y .counters) (omega arith) (omega arith) (omega arith) (λ v. absurd (omega arith)) (λ v u. omega arith) (λ v u. omega arith)
               (omega (arith, k-low now)) (pow-pos k) (λ v. pow-pos 0))
               (row-2-count (mindOf h b n (toThree (withL q child))) (k-low now) (now .run) (now .first) refl w₂ got (y .counters .finite) not-inner c (clean-word (q .pseen) c z) refl refl refl g
@@ -252,8 +261,8 @@ module _ {hs : ℕ → Header} {bs : ℕ → List ℕ} {i j n : ℕ} (now : Now 
           go : (t : Bool) → isCleanOf (q .gseen) ≡ t → (u : Bool) → isCleanOf (q .pseen) ≡ u
               → Follows hs bs i j n h b q (pick t (pick u (goingOn (toThree (withL q child))) (helping 0 (withL q child) (q .pseen))) (helping 0 (withL q child) (q .gseen)))
           go true z true x = let c = clean-of (q .pseen) x in let g = clean-of (q .gseen) z in three (c .0) (g .0) (c .1) (g .1)
-          go true z false x = helps (λ v. omega arith) (q .pseen) (w₂ .read)
-          go false z u x = helps (λ v. omega arith) (q .gseen) (up (w₂ .descends .from))
+          go true z false x = helps (λ v. omega arith) (q .pseen) (w₂ .read) (y .newer .pseen-late)
+          go false z u x = helps (λ v. omega arith) (q .gseen) (up (w₂ .descends .from)) (y .newer .gseen-late)
 
       at-leaf : Follows hs bs i j n h b q (atLeaf (withL q child) (holds (q .key) (keysOf b h child (tagWord b h child))))
       unfolding pick

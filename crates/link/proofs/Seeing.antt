@@ -25,8 +25,8 @@ use Rattle.history.proofs.Descent.{Read}
 use Rattle.history.proofs.Knows.{Mind, Owns, none-yet, owns}
 use Rattle.history.proofs.Serving.{serve-replace, serve-prune, serve-mark, serve-top}
 use Rattle.link.specs.Tables.{stackOf}
-use Rattle.link.proofs.Checks.{clean-is, replace-is, prune-is, mark-is}
-use Rattle.link.proofs.Minds.{mindOf, Held, HeldBy, Counters, CountersBy}
+use Rattle.link.proofs.Checks.{Late, clean-is, replace-is, prune-is, mark-is}
+use Rattle.link.proofs.Minds.{mindOf, Held, HeldBy, NewerBy, newer-helped, Counters, CountersBy}
 use Rattle.link.proofs.Moments.{tables, Now, Frees, Follows, already, k-low, restarts}
 
 -- helping: the numbers that its points ask for
@@ -99,7 +99,7 @@ owns-loose M l (none-yet e) = free e
 owns-loose M l (owns i a c e f g) = below l i a c e (g l)
 
 module _ {hs : ℕ → Header} {bs : ℕ → List ℕ} {i j : ℕ} (n : ℕ) (now : Now hs bs j) (q q₀ : Process) (b′ : List ℕ) (top : ℕ) (since : i ≤ j)
-    (c : CountersBy (hs j .k) q₀) (w : HeldBy (hs j .k) (tables hs bs j) q₀) (busy : q₀ .operation ≢ 1)
+    (c : CountersBy (hs j .k) q₀) (w : HeldBy (hs j .k) (tables hs bs j) q₀) (newer : NewerBy (hs 0 .recordsused) (stackOf (hs j) b′ n) q₀) (busy : q₀ .operation ≢ 1)
     (st : Stacked (hs j .k) (tables hs bs j) (stackOf (hs j) b′ n) (q₀ .depth))
     (own : Loose (tables hs bs j) n (q₀ .operation) (q₀ .key) (q₀ .depth) (q₀ .own) (stackOf (hs j) b′ n))
     (on-top : (d : ℕ) → q₀ .depth ≡ suc d → top ≡ stackOf (hs j) b′ n d) (own₀ : q₀ .own ≡ q .own) (free : q₀ .depth ≡ 0 → Frees hs bs j (hs j) b′ q) where
@@ -107,6 +107,7 @@ module _ {hs : ℕ → Header} {bs : ℕ → List ℕ} {i j : ℕ} (n : ℕ) (no
   pub to-top : (d : ℕ) → q₀ .depth ≡ suc d → Follows hs bs i j n (hs j) b′ q (goingOn (toTen q₀ top))
   to-top d e =
       already (toTen q₀ top) refl (λ d. absurd (d own₀)) (held-helped top (rw (on-top d e) (st .used d (omega arith) .high)) w)
+      (newer-helped top (rw (on-top d e) (newer .stack-late d (omega arith))) newer)
       (counters-help 10 (q₀ .index) (q₀ .depth) (q₀ .own) c busy (omega arith) (omega arith) (c .index-high) (λ z. absurd (omega arith)) (λ z y. absurd (omega arith)) (λ z. omega arith))
       (serve-top d e (on-top d e) st (loose-owns (mindOf (hs j) b′ n (toTen q₀ top)) own))
 
@@ -122,7 +123,7 @@ module _ {hs : ℕ → Header} {bs : ℕ → List ℕ} {i j : ℕ} (n : ℕ) (no
       go (no e) = rw (ne-eqb (q₀ .depth) 0 e) (to-top (q₀ .depth - 1) (sym (more (q₀ .depth) e)))
 
   -- a value seen of node a
-  module _ {a v : ℕ} (r : Read (tables hs bs j) a v) (goes : (m : ℕ) → tables hs bs j .rec m .third ≡ a → Goes-on (tables hs bs j) (stackOf (hs j) b′ n) (q₀ .depth) m) where
+  module _ {a v : ℕ} (r : Read (tables hs bs j) a v) (late : Late (hs 0 .recordsused) (pendingOf v)) (goes : (m : ℕ) → tables hs bs j .rec m .third ≡ a → Goes-on (tables hs bs j) (stackOf (hs j) b′ n) (q₀ .depth) m) where
     by-value : (u : Pending) → pendingOf v ≡ u → Follows hs bs i j n (hs j) b′ q (helping top q₀ u) → Follows hs bs i j n (hs j) b′ q (helping top q₀ (pendingOf v))
     by-value u e f = subst (λ (x : Pending). Follows hs bs i j n (hs j) b′ q (helping top q₀ x)) (sym e) f
 
@@ -137,16 +138,16 @@ module _ {hs : ℕ → Header} {bs : ℕ → List ℕ} {i j : ℕ} (n : ℕ) (no
         go (clean x e o) = by-value (Clean x) (clean-is v x e) ended-early
         go (replacing x e u kd pp) =
             by-value (Replace x) (replace-is v x e)
-            (already (toSix q₀ x) refl (λ d. absurd (d own₀)) (held-helped x (u .high) w)
+            (already (toSix q₀ x) refl (λ d. absurd (d own₀)) (held-helped x (u .high) w) (newer-helped x (rw (replace-is v x e) at late) newer)
             (counters-help 6 1 (q₀ .depth) (q₀ .own) c busy (omega arith) (omega arith) (omega arith) (λ z. omega arith) (λ z y. absurd (omega arith)) (λ z. absurd (omega arith)))
             (serve-replace hk x u refl st (loose-owns (mindOf (hs j) b′ n (toSix q₀ x)) own) kd refl))
         go (pruning x e u kd pp) =
             by-value (Prune x) (prune-is v x e)
-            (already (toNine q₀ x) refl (λ d. absurd (d own₀)) (held-helped x (u .high) w)
+            (already (toNine q₀ x) refl (λ d. absurd (d own₀)) (held-helped x (u .high) w) (newer-helped x (rw (prune-is v x e) at late) newer)
             (counters-help 9 (q₀ .index) (q₀ .depth) (q₀ .own) c busy (omega arith) (omega arith) (c .index-high) (λ z. absurd (omega arith)) (λ z y. absurd (omega arith)) (λ z. absurd (omega arith)))
             (serve-prune hk x u refl st (loose-owns (mindOf (hs j) b′ n (toNine q₀ x)) own) kd (goes x pp)))
         go (marked x e u kd pp) =
             by-value (Mark x) (mark-is v x e)
-            (already (toEleven q₀ x) refl (λ d. absurd (d own₀)) (held-other 0 (inl refl) (held-helped x (u .high) w))
+            (already (toEleven q₀ x) refl (λ d. absurd (d own₀)) (held-other 0 (inl refl) (held-helped x (u .high) w)) (newer-helped x (rw (mark-is v x e) at late) newer)
             (counters-help 11 1 (q₀ .depth) (q₀ .own) c busy (omega arith) (omega arith) (omega arith) (λ z. absurd (omega arith)) (λ z y. omega arith) (λ z. absurd (omega arith)))
             (serve-mark hk x u refl st (loose-owns (mindOf (hs j) b′ n (toEleven q₀ x)) own) (kd, rw pp (r .mark x e ∙ e)) refl refl))

@@ -75,7 +75,7 @@ module _ {hs : ℕ → Header} {bs : ℕ → List ℕ} {i j n : ℕ} (now : Now 
       step = step;
       stacks = stacks;
       owners′ =
-          λ r u. rw (w .rec r processField (in-record (now .fit) r processField u (omega arith))) (now .owners r u);
+          λ r l u. rw (w .rec r processField (in-record (now .fit) r processField (omega arith) (omega arith))) (now .owners r l u);
       drawn-by = λ r a c. absurd (omega arith);
     };
     swapper = swapper;

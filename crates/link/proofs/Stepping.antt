@@ -108,6 +108,7 @@ module _ {hs : ℕ → Header} {bs : ℕ → List ℕ} {i j n : ℕ} (now : Now 
   step-sound =
       both-is (process-good q (now .fit) I (y .held) (y .counters) (uses-at (q .point) refl (y .knows)))
       (both-is
-      (helps-good q (now .fit) I (now .owners)
-      (λ l. let w = serves l (q .point) refl (y .knows) in (w .used, helps-kind k (S j) (q .helped) (q .index) (q .other) (q .point) (w .helps))))
+      (helps-good q (now .fit) I
+      (λ l. let w = serves l (q .point) refl (y .knows) in
+      (w .used, now .owners (q .helped) (y .newer .helped-late (λ z. omega (arith, w .used .low))) (w .used .high), helps-kind k (S j) (q .helped) (q .index) (q .other) (q .point) (w .helps))))
       (turn .is-sound))

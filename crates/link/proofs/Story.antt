@@ -199,7 +199,7 @@ module _ {s : State} {es : List Event} (reached : Reached s es) where
   -- every busy process has one
   pub story : (m n : ℕ) → In (headerAt s es m .processes) n → taken (W m) n .operation ≢ 0 → Story s es m n
   unfolding stateAt
-  story zero n u d = absurd (d (reached .rest .idle-all n u))
+  story zero n u d = absurd (d (reached .settled .idle-all n u))
   story (suc m) n u d = go (outcome (good reached m)) (λ (x : taken (W m) n .operation ≢ 0). story m n back x)
     where
       back : In (headerAt s es m .processes) n

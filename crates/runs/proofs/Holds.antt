@@ -16,9 +16,11 @@ use Rattle.flag.specs.Rows.{row4, row5}
 use Rattle.points.specs.Rows.{row1, row2, row3, rowOf, noRow}
 use Rattle.meter.specs.Walk.{inOrder, walkOf}
 use Rattle.index.specs.Calls.{startCall, stepCall}
-use Rattle.runs.specs.Run.{many, run, measured, expected}
+use Rattle.make.specs.Make.{makeCall}
+use Rattle.link.specs.Events.{stateAt}
+use Rattle.runs.specs.Run.{toldAt, measured, expected}
 use Rattle.runs.specs.Table.{table}
 
 pub runs-hold : map measured table ≡ map expected table
-unfolding pick both listed numbersGood headerGood firstAt rises holds processGood fieldsGood nodesGood recordsGood usesGood helpedGood recordGood leavesFrom committed replaceDrawn pruneDrawn helpEnded row1 row2 row3 row4 row5 row6 row7 row8 row9 row10 row11 row12 row13 row14 rowOf noRow lookRow hangRow unflagRow inOrder walkOf startCall stepCall many run table ones
+unfolding pick both listed numbersGood headerGood firstAt rises holds processGood fieldsGood nodesGood recordsGood usesGood helpedGood recordGood leavesFrom committed replaceDrawn pruneDrawn helpEnded row1 row2 row3 row4 row5 row6 row7 row8 row9 row10 row11 row12 row13 row14 rowOf noRow lookRow hangRow unflagRow inOrder walkOf startCall stepCall makeCall stateAt toldAt table ones
 runs-hold = refl

@@ -1,3 +1,4 @@
--- The table of small runs, and what a run measures.
+-- The table of small runs, what a run measures, and what demand 3 says of three of them.
 pub mod Run
 pub mod Table
+pub mod Witness

@@ -1,22 +1,17 @@
--- A run: starts and steps from a fresh tree, by the definitions that make, start, step and the listing promise; and what is measured of it.
+-- What is measured of a list of events from a made state: the answers, the used counts, some words, and the keys of the set.
 use Prim.Native.Nat.{ℕ, zero, suc}
 use mathlib.Core.List.{List, [], _∷_, _++_, map}
-use lib.ListN.{replicate}
+use lib.ListN.{length, replicate}
 use Rattle.tables.specs.Layout.{nodeWord}
-use Rattle.tables.specs.Header.{headerOf}
-use Rattle.fresh.specs.Fresh.{freshHeader, freshBlock}
-use Rattle.process.specs.Process.{idle}
 use Rattle.process.specs.Answer.{answerNumber}
-use Rattle.process.specs.declared.Process.{Process}
 use Rattle.process.specs.declared.StepAnswer.{StepAnswer}
 use Rattle.process.specs.declared.StepAnswer.the-variants.{GoesOn, Ended, Refused}
 use Rattle.walk.specs.Calls.{keysMet}
-use Rattle.index.specs.Calls.{startCall, stepCall}
+use Rattle.link.specs.Events.{Event, start, step, State, stepIn, eventAt, stateAt, blockAt, headerAt}
 
--- a start of a process, or so many steps of it
-pub data Event : Type 0 where
-  starts : ℕ → ℕ → ℕ → Event
-  takes : ℕ → ℕ → Event
+-- so many steps of a process
+abbrev pub steps : ℕ → ℕ → List Event
+steps n times = replicate times (step n)
 
 -- an answer: the process, the answer's number, the steps it reports
 pub record Told : Type 0 where
@@ -27,40 +22,21 @@ pub record Told : Type 0 where
 abbrev pub told : ℕ → ℕ → ℕ → Told
 told process answer steps = record { process = process; answer = answer; steps = steps }
 
--- the tables of a driver, and what it was told so far
-pub record State : Type 0 where
-  pub block : List ℕ
-  pub row : List Process
-  pub tolds : List Told
-
-abbrev pub state : List ℕ → List Process → List Told → State
-state block row tolds = record { block = block; row = row; tolds = tolds }
-
-abbrev pub fresh : ℕ → ℕ → ℕ → ℕ → State
-fresh k processes nodes records = state (freshBlock (freshHeader k processes nodes records)) (replicate processes idle) []
-
--- what a step's answer adds to what was told; a refusal is told as 9, which is no answer's number
+-- what a step's answer tells; a refusal is told as 9, which is no answer's number
 abbrev pub tells : ℕ → StepAnswer → List Told
 tells n GoesOn = []
 tells n (Ended a steps) = told n (answerNumber a) steps ∷ []
 tells n (Refused e) = told n 9 0 ∷ []
 
-abbrev pub stepped : ℕ → State → State
-stepped n s =
-    state (stepCall (s .block) (s .row) n .block) (stepCall (s .block) (s .row) n .row)
-    (s .tolds ++ tells n (stepCall (s .block) (s .row) n .answer))
+-- what an event tells
+abbrev pub tellsIn : State → Event → List Told
+tellsIn s (start n operation key) = []
+tellsIn s (step n) = tells n (stepIn s n .answer)
 
-unfoldable pub many : ℕ → ℕ → State → State
-many n zero s = s
-many n (suc times) s = many n times (stepped n s)
-
-abbrev pub happen : Event → State → State
-happen (starts n operation key) s = state (s .block) (startCall (s .block) (s .row) n operation key .row) (s .tolds)
-happen (takes n times) s = many n times s
-
-unfoldable pub run : List Event → State → State
-run [] s = s
-run (e ∷ es) s = run es (happen e s)
+-- what was told by the first m events of a list
+unfoldable pub toldAt : State → List Event → ℕ → List Told
+toldAt s es zero = []
+toldAt s es (suc m) = toldAt s es m ++ tellsIn (stateAt s es m) (eventAt es m)
 
 -- a word of a node that document 01 names
 pub record Word : Type 0 where
@@ -80,25 +56,23 @@ pub record Outcome : Type 0 where
   pub keys : List ℕ
 
 pub record Run : Type 0 where
-  pub start : State
+  pub begin : State
   pub events : List Event
   pub outcome : Outcome
 
-abbrev pub read : List ℕ → Word → Word
-read b w = word (w .node) (w .offset) (nodeWord b (headerOf b) (w .node) (w .offset))
-
-abbrev pub measure : List Word → State → Outcome
-measure words s = record {
-  tolds = s .tolds;
-  nodes = headerOf (s .block) .nodesused;
-  records = headerOf (s .block) .recordsused;
-  words = map (read (s .block)) words;
-  keys = keysMet (s .block);
+-- the moment m of a run, at the words named
+abbrev pub measure : State → List Event → List Word → ℕ → Outcome
+measure s es words m = record {
+  tolds = toldAt s es m;
+  nodes = headerAt s es m .nodesused;
+  records = headerAt s es m .recordsused;
+  words = map (λ w. word (w .node) (w .offset) (nodeWord (blockAt s es m) (headerAt s es m) (w .node) (w .offset))) words;
+  keys = keysMet (blockAt s es m);
 }
 
--- what is measured of a run, at the words that its outcome names
+-- what is measured of a run at its end, at the words that its outcome names
 abbrev pub measured : Run → Outcome
-measured r = measure (r .outcome .words) (run (r .events) (r .start))
+measured r = measure (r .begin) (r .events) (r .outcome .words) (length (r .events))
 
 abbrev pub expected : Run → Outcome
 expected r = r .outcome

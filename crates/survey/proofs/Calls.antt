@@ -18,7 +18,7 @@ use Rattle.tables.specs.declared.header.Header.{Header}
 use Rattle.tables.specs.declared.numbers.Refusal.{Refusal}
 use Rattle.tables.specs.declared.numbers.Refusal.the-variants.{ListTooShort, InfinityGiven, LowAboveHigh}
 use Rattle.tables.proofs.Picks.{either-some}
-use Rattle.tables.proofs.OneToOne.{none-accepts}
+use Rattle.tables.proofs.OneToOne.{none-accepts, first-refuses}
 use Rattle.meter.specs.Walk.{walked}
 use Rattle.meter.specs.Measure.{anyWithin}
 use Rattle.walk.specs.Calls.{keysMet, listRest, listReasons, ListOut, listOut, listOf, partOf, ClearOf, Between, rangeRest, rangeReasons, rangeOf}
@@ -100,6 +100,10 @@ module _ {b : List ℕ} (fit : Fit (headerOf b) b) (I : Sound (headerOf b .k) (t
     -- the twin hands back the keys
     pub part-answers : length (keysMet b) ≤ length list → partOf b list ≡ keysMet b
     part-answers l = none-accepts (λ n. []) (keysMet b) (listReasons b (length list)) (list-fine l)
+
+    -- "empty if refused"
+    pub part-too-short : length list < length (keysMet b) → partOf b list ≡ []
+    part-too-short l = first-refuses (λ n. []) (keysMet b) 9 (listReasons b (length list)) (short l)
 
   -- range
   module _ (low high : ℕ) where

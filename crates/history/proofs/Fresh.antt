@@ -1,4 +1,4 @@
--- A state at rest meets the invariant, and the fresh tree is one.
+-- The fresh tree meets the invariant, and its set is empty.
 use mathlib.Core.Path.{_≡_, refl}
 use mathlib.Core.Logic.{_≢_}
 use mathlib.Core.List.{List, [], _∷_, List·Memᴰ}
@@ -15,31 +15,6 @@ use Rattle.history.proofs.Invariant.{counts, inner-count, Sorted, Shape
 use Rattle.history.proofs.Touch.{reach-used}
 use Rattle.history.proofs.Grow.{counts-no, counts-low}
 use Rattle.history.proofs.SetLaws.{empty-row}
-
--- no record in use, all pendings 0, shape, one parent, search order
-pub record Rest (k : ℕ) (S : Shared) : Type 0 where
-  pub no-record : S .records ≡ 0
-  pub quiet : (n : ℕ) → In (S .nodes) n → S .view .pend n ≡ 0
-  pub shape : Shape k (S .nodes) (S .view)
-  pub uniq : Uniq k (S .view)
-  pub ordered : Ordered k (S .view)
-
-pub rest-sound : {k : ℕ} {S : Shared} → Rest k S → Sound k S
-rest-sound {k} {S} r = record {
-  inv = record {
-    shape = r .shape;
-    uniq = r .uniq;
-    ordered = r .ordered;
-    pending = λ n h. clean 0 (r .quiet n h) (never refl);
-    good = λ q h. absurd (no₁ q h);
-    status = λ q h. absurd (no₁ q h);
-    apart = λ a b h g. absurd (no₁ a h);
-    named = λ a b n h g. absurd (no₁ a h);
-  };
-}
-  where
-    no₁ : (q : ℕ) → In (S .records) q → ⊥
-    no₁ q h = omega (arith, h .low, h .high, r .no-record)
 
 -- no internal node above the dummy
 count-none : (k : ℕ) (t : View) (n : ℕ) → ((a : ℕ) → 2 < a → a ≤ n → t .tag a ≢ k) → inner-count k t n ≡ 0
@@ -145,12 +120,20 @@ module _ {k : ℕ} {S : Shared} (hk : 2 ≤ k) (f : Fresh k S) where
   fresh-empty x h =
       empty-row (S .view) (h .node) (leaf-high (h .node) (reach-used (omega arith) fresh-shape (h .reached)) (h .leaf)) (h .has)
 
-  pub fresh-rest : Rest k S
+  pub fresh-sound : Sound k S
   unfolding Ordered
-  fresh-rest = record {
-    no-record = f .no-record;
-    quiet = λ n h. f .clean n (omega (arith, h .low, h .high, f .nodes));
-    shape = fresh-shape;
-    uniq = fresh-uniq;
-    ordered = λ n x o q m. absurd (fresh-empty x (record { node = n; reached = o; leaf = q; has = m }));
+  fresh-sound = record {
+    inv = record {
+      shape = fresh-shape;
+      uniq = fresh-uniq;
+      ordered = λ n x o q m. absurd (fresh-empty x (record { node = n; reached = o; leaf = q; has = m }));
+      pending = λ n h. clean 0 (f .clean n (omega (arith, h .low, h .high, f .nodes))) (never refl);
+      good = λ q h. absurd (no-record q h);
+      status = λ q h. absurd (no-record q h);
+      apart = λ a b h g. absurd (no-record a h);
+      named = λ a b n h g. absurd (no-record a h);
+    };
   }
+    where
+      no-record : (q : ℕ) → In (S .records) q → ⊥
+      no-record q h = omega (arith, h .low, h .high, f .no-record)
