@@ -1,4 +1,6 @@
 // The bench program of document 01: it reads the input, cuts it into lines, has each done, and writes what is to be printed.
+#![tactic(auto)]
+
 ghost use Rattle.std.specs.Prelude.{◌≡◌, ◌≤◌, length};
 
 use libc::{STDIN_FILENO, STDOUT_FILENO};
@@ -20,7 +22,7 @@ const LINE_BYTES: usize = 4097;
 const PIECE_BYTES: usize = 65536;
 
 // How many bytes of the line that is being read are kept, and the session.
-#[derive(Drop)]
+#[derive(Clone, Copy)]
 struct Reading {
     kept: usize,
     session: Session,

@@ -1,3 +1,5 @@
 // The damage checks of a step on its process record and on the record being helped. All cost O(1).
+#![tactic(auto)]
+
 pub mod fields;
 pub mod helped;

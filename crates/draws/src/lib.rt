@@ -1,4 +1,6 @@
 // Drawing at 4 and 5: the new nodes and the new record, in the next free numbers, and the flag. Nothing is written where there is no room.
+#![tactic(auto)]
+
 ghost use Rattle.std.specs.Prelude.{◌≡◌, ◌+◌, ◌*◌, ◌≤◌, [], get_or, set};
 ghost use Rattle.std.proofs.lemmas.List.Edits.{sets};
 ghost use Rattle.tables.specs.Layout.{record_at};
@@ -10,7 +12,7 @@ use tables::header::Header;
 use tables::{choice, header, words};
 
 // What a new record says of its maker and its place: the process, its operation and key, p and l.
-#[derive(Drop)]
+#[derive(Clone, Copy)]
 pub struct Job {
     pub process: u32,
     pub operation: u32,

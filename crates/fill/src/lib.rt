@@ -1,5 +1,7 @@
 // The filling pass: a walk's keys stored in a lent list, from its front.
 // Its one public function asks nothing of its caller: what has no room in the list is not stored.
+#![tactic(auto)]
+
 ghost use Rattle.std.specs.Prelude.{◌≡◌, ◌-◌, ◌<◌};
 ghost use Rattle.std.proofs.lemmas.List.Edits.{sets};
 ghost use Rattle.nodes.specs.Keys.{keys_of};
@@ -13,7 +15,7 @@ use tables::header::Header;
 use tables::{header, words};
 
 // Nodes still allowed, and where the next key goes.
-#[derive(Drop)]
+#[derive(Clone, Copy)]
 struct Filling {
     allowed: u16,
     at: u32,

@@ -1,5 +1,7 @@
 // Points 6, 7, 8 and 12, 13, 14: a child looked for and swapped, and the flag put back to clean, for whoever's record it is.
 // No public function asks anything of its caller.
+#![tactic(auto)]
+
 ghost use Rattle.std.specs.Prelude.{◌≡◌, true, eqb, set};
 ghost use Rattle.tables.specs.Choice.{pick, both};
 ghost use Rattle.nodes.specs.Pending.{pending_of, pending_good};

@@ -1,5 +1,7 @@
 // Points 4 and 5: the flag of a new record on p's pending, or on gp's, and what is drawn for it.
 // No public function asks anything of its caller.
+#![tactic(auto)]
+
 ghost use Rattle.std.specs.Prelude.{◌≡◌, ◌<◌};
 ghost use Rattle.nodes.specs.Pending.{word_of};
 ghost use Rattle.help.specs.Touch.{out, row_done};

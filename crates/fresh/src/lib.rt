@@ -1,4 +1,6 @@
 // "Fresh tree (Figure 6)": making on a lent block. The one call here is total: it asks nothing of its caller and states its result and the whole block on every input.
+#![tactic(auto)]
+
 ghost use Rattle.std.specs.Prelude.{◌≡◌, ◌≤◌, [], ◌∷◌, replicate};
 ghost use Rattle.std.proofs.lemmas.List.Edits.{sets};
 ghost use Rattle.tables.specs.Layout.{over_front};
@@ -9,7 +11,7 @@ use tables::header::Header;
 use tables::numbers::Refusal;
 use tables::{header, numbers, words};
 
-#[derive(Drop)]
+#[derive(Clone, Copy)]
 pub enum Made {
     Done,
     Refused(Refusal),

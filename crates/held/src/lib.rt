@@ -1,4 +1,6 @@
 // Make, start and step of crate `index` over a row that is held by value, for programs: their callers need no proof about a lent row.
+#![tactic(auto)]
+
 ghost use Rattle.std.specs.Prelude.{◌≡◌};
 ghost use Rattle.make.specs.Make.{make_out, make_call};
 ghost use Rattle.index.specs.Calls.{start_out, start_call, step_out, step_call};
@@ -7,19 +9,19 @@ use fresh::Made;
 use points::start::StartAnswer;
 use process::{Process, StepAnswer};
 
-#[derive(Drop)]
+#[derive(Clone, Copy)]
 pub struct HeldMade {
     pub row: [Process; 32],
     pub answer: Made,
 }
 
-#[derive(Drop)]
+#[derive(Clone, Copy)]
 pub struct HeldStart {
     pub row: [Process; 32],
     pub answer: StartAnswer,
 }
 
-#[derive(Drop)]
+#[derive(Clone, Copy)]
 pub struct HeldStep {
     pub row: [Process; 32],
     pub answer: StepAnswer,

@@ -1,5 +1,7 @@
 // Helping: where a pending value sends a process, how help ends, and what the points of a record being helped share.
 // No public function asks anything of its caller.
+#![tactic(auto)]
+
 ghost use Rattle.std.specs.Prelude.{◌≡◌, ◌+◌, ◌*◌, eqb, set};
 ghost use Rattle.tables.specs.Choice.{pick};
 ghost use Rattle.tables.specs.Layout.{node_at, pending_place};

@@ -1,5 +1,7 @@
 // The calls a driver makes: make, start and step over a lent block and a lent row of process records; listing, its twin and range over the block alone.
 // Start and step each take one record out of the row, hand it by value to the calls below, and put it back. No public one asks anything of its caller.
+#![tactic(auto)]
+
 ghost use Rattle.std.specs.Prelude.{◌≡◌, ◌-◌, get_or, set};
 ghost use Rattle.process.specs.Process.{idle};
 ghost use Rattle.index.specs.Calls.{start_out, start_call, step_out, step_call};

@@ -1,4 +1,6 @@
 // Document 01, "To run only": what is tried at the limits, a line for each call and its answer behind it, all with 32 processes.
+#![tactic(auto)]
+
 use fresh::Made;
 use libc::STDOUT_FILENO;
 use print::lines::{Making, StartLine, StepLine};

@@ -1,4 +1,6 @@
 // Making over a lent block and a lent row of process records: the block by crate `fresh`, the row here. No public function asks anything of its caller.
+#![tactic(auto)]
+
 ghost use Rattle.std.specs.Prelude.{◌≡◌, ◌≤◌, length, replicate};
 ghost use Rattle.tables.specs.Layout.{over_front};
 ghost use Rattle.make.specs.Make.{make_out, make_call};
@@ -22,7 +24,7 @@ fn fill(row: &mut [Process], count: usize, q: Process)
 }
 
 // What making a block answers, and how many records are to be idle: none if it is refused.
-#[derive(Drop)]
+#[derive(Clone, Copy)]
 struct Making {
     made: Made,
     count: usize,

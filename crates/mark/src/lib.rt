@@ -1,5 +1,7 @@
 // Points 9, 10, 11: the mark of a prune's record on p, its push and pop, and the node noted.
 // No public function asks anything of its caller.
+#![tactic(auto)]
+
 ghost use Rattle.std.specs.Prelude.{◌≡◌, false, not, ◌<◌, ◌+◌, ◌*◌, ◌-◌, ltb, eqb, set};
 ghost use Rattle.tables.specs.Choice.{both, either};
 ghost use Rattle.tables.specs.Layout.{stack_at};

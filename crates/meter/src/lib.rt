@@ -1,5 +1,7 @@
 // The measuring pass: how many keys a walk meets, whether one of them lies in a range, and whether all was sound.
 // Its one public function asks nothing of its caller.
+#![tactic(auto)]
+
 ghost use Rattle.std.specs.Prelude.{◌≡◌, ◌-◌, ◌<◌};
 ghost use Rattle.nodes.specs.Keys.{keys_of};
 ghost use Rattle.meter.specs.Walk.{begin, leaf_met, met_from, walked};
@@ -11,7 +13,7 @@ use tables::header::Header;
 use tables::{choice, header};
 
 // Nodes still allowed, keys met, whether one of them lies in the range, and whether no damage was met.
-#[derive(Drop)]
+#[derive(Clone, Copy)]
 pub struct Meter {
     pub allowed: u16,
     pub count: u32,

@@ -10,13 +10,13 @@ use tables::header::Header;
 use tables::{choice, header, words};
 
 // A leaf with its count of keys, or an internal node.
-#[derive(Drop)]
+#[derive(Clone, Copy)]
 pub enum Kin {
     Leaf(u32, u8),
     Internal(u32),
 }
 
-#[derive(Drop)]
+#[derive(Clone, Copy)]
 pub enum Child {
     Node(Kin),
     Damaged,

@@ -9,7 +9,7 @@ pub const REPLACE_KIND: u32 = 1;
 
 pub const PRUNE_KIND: u32 = 2;
 
-#[derive(Drop)]
+#[derive(Clone, Copy)]
 pub enum Pending {
     Clean(u32),
     Replace(u32),

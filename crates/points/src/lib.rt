@@ -1,4 +1,6 @@
 // Start and the fourteen points of document 01, by value: one step of one process record on a lent block.
+#![tactic(auto)]
+
 mod search;
 pub mod start;
 pub mod step;

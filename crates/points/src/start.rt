@@ -9,14 +9,14 @@ use tables::header::{Header, HeaderRead};
 use tables::numbers::Refusal;
 use tables::{choice, header, numbers};
 
-#[derive(Drop)]
+#[derive(Clone, Copy)]
 pub enum StartAnswer {
     Accepted,
     Refused(Refusal),
 }
 
 // What a start by value hands back: its answer, and the process record then.
-#[derive(Drop)]
+#[derive(Clone, Copy)]
 pub struct Started {
     pub answer: StartAnswer,
     pub process: Process,

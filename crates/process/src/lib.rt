@@ -1,4 +1,6 @@
 // The process record of document 01, by value: its fifteen fields, what changes them, and what a call answers.
+#![tactic(auto)]
+
 ghost use Rattle.std.specs.Prelude.{◌≡◌};
 ghost use Rattle.process.specs.Process.{idle, started_as, restarted_of, with_point, with_p_seen, with_l, with_index, with_mask, with_other, with_depth, with_own, descended_of, to_three, to_twelve, to_six, to_nine, to_ten, to_eleven, is_clean_of};
 ghost use Rattle.process.specs.Answer.{answer_number, steps_up, going_on, ending_of, refused_as};
@@ -6,7 +8,7 @@ ghost use Rattle.process.specs.Answer.{answer_number, steps_up, going_on, ending
 use nodes::pending::Pending;
 use tables::numbers::Refusal;
 
-#[derive(Drop)]
+#[derive(Clone, Copy)]
 pub struct Process {
     pub operation: u32,
     pub key: u32,
@@ -35,7 +37,7 @@ pub const DELETE: u32 = 3;
 const MOST_STEPS: u32 = 4294967295;
 
 // "Answers: 0 no, 1 yes, 2 full."
-#[derive(Drop)]
+#[derive(Clone, Copy)]
 pub enum Answer {
     No,
     Yes,
@@ -43,7 +45,7 @@ pub enum Answer {
 }
 
 // "Short of one, a step says that it goes on"; an answer "reports the steps".
-#[derive(Drop)]
+#[derive(Clone, Copy)]
 pub enum StepAnswer {
     GoesOn,
     Ended(Answer, u32),
@@ -51,7 +53,7 @@ pub enum StepAnswer {
 }
 
 // What a step by value hands back: its answer, and the process record then.
-#[derive(Drop)]
+#[derive(Clone, Copy)]
 pub struct Stepped {
     pub answer: StepAnswer,
     pub process: Process,

@@ -1,7 +1,7 @@
 // What a line of the script asks for.
 use print::lines::{Making, StartLine, StepLine};
 
-#[derive(Drop)]
+#[derive(Clone, Copy)]
 pub enum Line {
     Making(Making),
     Start(StartLine),

@@ -19,27 +19,27 @@ pub const LONGEST: usize = 4096;
 const MOST: u64 = 4294967295;
 
 // Where the part of the line that is still to be read begins; or the line is not in its form.
-#[derive(Drop)]
+#[derive(Clone, Copy)]
 enum Next {
     At(usize),
     Bad,
 }
 
 // A number of the line, or an operation, and where the rest begins.
-#[derive(Drop)]
+#[derive(Clone, Copy)]
 struct Found {
     value: u32,
     next: Next,
 }
 
 // The two kinds of runs: a number's digits, and the bytes of an op word.
-#[derive(Drop)]
+#[derive(Clone, Copy)]
 enum Kind {
     Digit,
     Word,
 }
 
-#[derive(Drop)]
+#[derive(Clone, Copy)]
 enum Value {
     Fits(u32),
     TooBig,

@@ -27,21 +27,21 @@ const NODES_USED_AT: u64 = 3;
 const RECORDS_USED_AT: u64 = 5;
 
 // No line yet; the tables are made; a first line was refused.
-#[derive(Drop)]
+#[derive(Clone, Copy)]
 pub enum Stage {
     First,
     Made,
     Ended,
 }
 
-#[derive(Drop)]
+#[derive(Clone, Copy)]
 pub struct Session {
     pub stage: Stage,
     pub row: [Process; 32],
 }
 
 // What is to be printed of a line. The keys of a listing stand in the lent list.
-#[derive(Drop)]
+#[derive(Clone, Copy)]
 pub enum Said {
     Nothing,
     Answered(AnswerLine),
@@ -49,7 +49,7 @@ pub enum Said {
     Listed(CountLine),
 }
 
-#[derive(Drop)]
+#[derive(Clone, Copy)]
 pub struct Turn {
     pub said: Said,
     pub session: Session,

@@ -1,5 +1,7 @@
 // Fixed work on the project's own calls, to be timed beside a peer that does the same.
 // The input's seven numbers say how much; what is printed says what came of it, so that it can be compared with the peer's.
+#![tactic(auto)]
+
 mod work;
 
 ghost use Rattle.std.specs.Prelude.{◌≤◌};

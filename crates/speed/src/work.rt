@@ -18,7 +18,7 @@ const REFUSED: u32 = 3;
 const PRIME: u64 = 4294967291;
 
 // How much is to be done, in the order of the input.
-#[derive(Drop)]
+#[derive(Clone, Copy)]
 pub struct Work {
     pub k: u32,
     pub nodes: u32,
@@ -29,14 +29,14 @@ pub struct Work {
     pub rounds: u32,
 }
 
-#[derive(Drop)]
+#[derive(Clone, Copy)]
 struct Ending {
     answer: u32,
     steps: u32,
 }
 
 // How the operations ended, their steps in all, and a sum in which their order counts.
-#[derive(Drop)]
+#[derive(Clone, Copy)]
 pub struct Tally {
     pub yes: u64,
     pub no: u64,
@@ -47,7 +47,7 @@ pub struct Tally {
 }
 
 // A tree is filled, then keys are sought in it, then keys go and come.
-#[derive(Drop)]
+#[derive(Clone, Copy)]
 enum Part {
     Filling,
     Finding,
@@ -55,21 +55,21 @@ enum Part {
 }
 
 // An operation, and the number of its key.
-#[derive(Drop)]
+#[derive(Clone, Copy)]
 struct Asked {
     operation: u32,
     number: u32,
 }
 
 // The tally after an operation, and whether it is the last of its part.
-#[derive(Drop)]
+#[derive(Clone, Copy)]
 struct Counted {
     tally: Tally,
     over: bool,
 }
 
 // The tally after a part, and how many operations were tried.
-#[derive(Drop)]
+#[derive(Clone, Copy)]
 struct Done {
     tally: Tally,
     count: u32,

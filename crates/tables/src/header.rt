@@ -8,7 +8,7 @@ use crate::numbers::Refusal;
 use crate::{choice, numbers, words};
 
 // Fields as narrow as their limits allow: every address then fits 64 bits, whatever they hold.
-#[derive(Drop)]
+#[derive(Clone, Copy)]
 pub struct Header {
     pub k: u8,
     pub processes: u8,
@@ -18,7 +18,7 @@ pub struct Header {
     pub recordsused: u16,
 }
 
-#[derive(Drop)]
+#[derive(Clone, Copy)]
 pub enum HeaderRead {
     Good(Header),
     Refused(Refusal),

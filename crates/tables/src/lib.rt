@@ -1,5 +1,7 @@
 // The block of document 01, "Tables": its numbers and limits, header, addresses and words.
 // Every public function is total: it asks nothing of its caller and states its result, and every lent word, on every input.
+#![tactic(auto)]
+
 pub mod choice;
 pub mod header;
 pub mod numbers;

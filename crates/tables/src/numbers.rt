@@ -25,7 +25,7 @@ pub const RECORD_WORDS: u64 = 8;
 
 pub const KEY_ROOM: usize = 8;
 
-#[derive(Drop)]
+#[derive(Clone, Copy)]
 pub enum Refusal {
     MakingNumber,
     TooShort,

@@ -1,5 +1,7 @@
 // Listing and range of document 01: single calls, lent the block without the process row.
 // Every public function is total: it asks nothing of its caller and states its result, and every lent word, on every input.
+#![tactic(auto)]
+
 ghost use Rattle.std.specs.Prelude.{◌≡◌};
 ghost use Rattle.walk.specs.Calls.{list_out, list_of, part_of, range_of};
 ghost use Rattle.walk.specs.Parts.{list_good, range_good, filled_of};
@@ -8,13 +10,13 @@ use tables::header::{Header, HeaderRead};
 use tables::numbers::Refusal;
 use tables::{header, numbers};
 
-#[derive(Drop)]
+#[derive(Clone, Copy)]
 pub enum Listed {
     Count(u32),
     Refused(Refusal),
 }
 
-#[derive(Drop)]
+#[derive(Clone, Copy)]
 pub enum Cleared {
     No,
     Yes,

@@ -19,5 +19,5 @@ point_10_spec =
     (λ c. search rules)  -- same-length
     (λ c. search ten_good)  -- returns
     (λ c. search rules)  -- same-length-2
-    (λ c. let a = c.before.before.before.before.before.before.before.before.before.before.before.args in ten_bad a.block.now a.h a.n a.q _ _ _ _ _ c.before.before.before.before.before.before.before.before.helped_third_lem.ensures c.before.before.before.before.before.before.pending_word_lem.ensures c.before.before.before.before.under_top.ensures c.before.before.pop_sound.ensures c.before.if1.false c.damaged.ensures)  -- returns-2
+    (λ c. let a = c.before.before.before.before.before.before.before.before.before.before.before.args in ten_bad a.block.now a.h a.n a.q _ _ _ _ _ c.before.before.before.before.before.before.before.before.helped_third.ensures c.before.before.before.before.before.before.pending_word.ensures c.before.before.before.before.under_top.ensures c.before.before.pop_sound.ensures c.before.if1.false c.damaged.ensures)  -- returns-2
     )

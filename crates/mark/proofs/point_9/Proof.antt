@@ -22,5 +22,5 @@ point_9_spec =
     (λ c. search rules)  -- same-length
     (λ c. search nine_good)  -- returns-2
     (λ c. search rules)  -- same-length-2
-    (λ c. let a = c.before.before.before.before.before.before.before.before.before.before.before.before.before.args in nine_bad a.block.now a.h a.n a.q _ _ _ _ c.before.before.before.before.before.before.before.before.helped_p_lem.ensures c.before.before.before.before.pending_word_lem.ensures c.before.before.seen-good.ensures c.before.before.before.before.before.before.before.before.before.before.if1.false c.before.if2.false c.damaged2.ensures)  -- returns-3
+    (λ c. let a = c.before.before.before.before.before.before.before.before.before.before.before.before.before.args in nine_bad a.block.now a.h a.n a.q _ _ _ _ c.before.before.before.before.before.before.before.before.helped_p.ensures c.before.before.before.before.pending_word.ensures c.before.before.seen-good.ensures c.before.before.before.before.before.before.before.before.before.before.if1.false c.before.if2.false c.damaged2.ensures)  -- returns-3
     )

@@ -28,6 +28,6 @@ sprout_spec =
     (λ c. search rules)  -- array-set-from-leaves
     (λ c. search rules)  -- add-i
     (λ c. search rules)  -- loop-less
-    (λ c. (omega arith, (simp length-set (omega arith), array_again _ _ _ _ c.before.before.loop.invariant.1.1 _ c.before.loop-test.true c.sprout_leaf_lem.ensures)))  -- loop-again
+    (λ c. (omega arith, (simp length-set (omega arith), array_again _ _ _ _ c.before.before.loop.invariant.1.1 _ c.before.loop-test.true c.sprout_leaf.ensures)))  -- loop-again
     (λ c. array_done _ _ _ _ c.before.loop.invariant.1.1 c.loop-test.false)  -- returns
     )

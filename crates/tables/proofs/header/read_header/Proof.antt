@@ -16,12 +16,12 @@ read_header_spec =
     (λ c. search rules)  -- shared-slice-read-records
     (λ c. search rules)  -- shared-slice-read-recordsused
     (λ c κs. search rules)  -- header-good-requires
-    (λ c. k_fits _ _ c.before.header_good_lem.ensures c.if2.true)  -- cast-t22
-    (λ c. processes_fits _ _ c.before.header_good_lem.ensures c.if2.true)  -- cast-t23
-    (λ c. nodes_fits _ _ c.before.header_good_lem.ensures c.if2.true)  -- cast-t24
-    (λ c. nodesused_fits _ _ c.before.header_good_lem.ensures c.if2.true)  -- cast-t25
-    (λ c. records_fits _ _ c.before.header_good_lem.ensures c.if2.true)  -- cast-t26
-    (λ c. recordsused_fits _ _ c.before.header_good_lem.ensures c.if2.true)  -- cast-t27
+    (λ c. k_fits _ _ c.before.header_good.ensures c.if-header_good.true)  -- cast-t22
+    (λ c. processes_fits _ _ c.before.header_good.ensures c.if-header_good.true)  -- cast-t23
+    (λ c. nodes_fits _ _ c.before.header_good.ensures c.if-header_good.true)  -- cast-t24
+    (λ c. nodesused_fits _ _ c.before.header_good.ensures c.if-header_good.true)  -- cast-t25
+    (λ c. records_fits _ _ c.before.header_good.ensures c.if-header_good.true)  -- cast-t26
+    (λ c. recordsused_fits _ _ c.before.header_good.ensures c.if-header_good.true)  -- cast-t27
     (λ c κs. search rules)  -- block-words-requires
     (λ c. search read_cut)  -- returns-2
     (λ c. search read_good)  -- returns-3
