@@ -1,7 +1,7 @@
 // "Fresh tree (Figure 6)": making on a lent block. The one call here is total: it asks nothing of its caller and states its result and the whole block on every input.
 #![tactic(auto)]
 
-ghost use Rattle.std.specs.Prelude.{◌≡◌, ◌≤◌, [], ◌∷◌, replicate};
+ghost use Rattle.std.specs.Prelude.{◌≡◌, ◌≤◌, [], ◌∷◌, length, replicate};
 ghost use Rattle.std.proofs.lemmas.List.Edits.{sets};
 ghost use Rattle.tables.specs.Layout.{over_front};
 ghost use Rattle.fresh.specs.Fresh.{make_out, make_of, header_image, written_fresh};
@@ -19,7 +19,7 @@ pub enum Made {
 
 // Every word of the block's needed length to 0; those beyond are untouched.
 fn clear(block: &mut [u32], count: u64)
-    requires* { do ⌜ count ≤ (← ⟦block.len()⟧) ⌝ }
+    requires { count ≤ length block.old }
     ensures { block.new ≡ over_front (replicate count 0) block.old }
 {
     let n = count as usize;
