@@ -138,6 +138,7 @@ module _ (low high : ℕ) where
 
   between_any : (x : ℕ) (ks : List ℕ) → Memᴰ x ks → low ≤ x → x ≤ high → any_within low high ks ≡ true
   unfolding any_within pick both
+  between_any x [] m p q = elim m [ ]
   between_any x (y ∷ ys) (Memᴰ.head e) p q = rw (← e, le-leb low x p, le-leb x high q) refl
   between_any x (y ∷ ys) (Memᴰ.tail m) p q = either_some (within low y high) (any_within low high ys) (inr (between_any x ys m p q))
 
