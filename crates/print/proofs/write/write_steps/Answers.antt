@@ -1,0 +1,6 @@
+-- The proof that `write::write_steps` keeps its contract.
+use Rattle.print.proofs.Buffers.{joined}
+use Rattle.print.proofs.write.write_steps.Goals as goal
+
+pub returns : goal.returns
+returns c = search joined
