@@ -1,6 +1,4 @@
--- The laws of the calls: loans of a row, and the calls' theorems.
-pub mod Shared
+-- The laws of the calls, and their theorems.
 pub mod Called
-pub mod OneRecord
 pub mod Refusals
 pub mod Answers
