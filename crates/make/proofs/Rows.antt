@@ -1,30 +1,12 @@
--- What the walks over a row of process records need: the machine value of a record, its size, that an index times the size fits, and laws of a row that is read, stored to and filled.
+-- What a row of process records is as it is filled, record after record.
 use mathlib.Core.Path.{◌≡◌, refl, ap}
-use Prim.Native.Nat.{ℕ, zero, suc, ◌+◌, ◌<◌, ◌≤◌, ◌*◌, ◌^◌}
+use Prim.Native.Nat.{ℕ, zero, suc, ◌+◌, ◌<◌, ◌≤◌}
 use native.Mathlib.Nat.{not-suc-le-zero, le_of_suc-le-suc}
 use native.Mathlib.Numerals.{add-one}
 use native.Mathlib.Omega.{arith}
 use mathlib.Core.List.{List, [], ◌∷◌, ◌++◌}
 use lib.ListN.{length, set, drop, replicate, length-append, length-replicate, length-drop}
-use mir.Val.{Val}
-use denote.Struct.Laws as LL
 use Rattle.tables.specs.Layout.{over_front}
-use Rattle.process.specs.declared.Process.{Process}
-use Rattle.process.specs.contracts.Process as T
-use Rattle.process.proofs.Process.TheLaws as T'
-
--- the bytes of a record
-abbrev pub size : ℕ
-size = 68
-
-abbrev pub mvals : Process → List Val
-mvals = LL.vals T.the_type T'.the_laws
-
-abbrev pub mach : Process → Val
-mach = LL.val T.the_type T'.the_laws
-
-pub fits_in : (i n : ℕ) → i < n → n * size < 2 ^ 63 → i * size < 2 ^ 64
-fits_in i n l r = omega (arith, l, r)
 
 module _ {A : Type 0} where
   -- the list with its first i elements made a
