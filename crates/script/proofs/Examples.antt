@@ -1,6 +1,6 @@
 -- Computed: document 01's example of a script and of what is printed, numbers at the limit, and lines that are not in their form.
 use mathlib.Core.Path.{◌≡◌, refl}
-use mathlib.Core.List.{List, [], ◌∷◌, ◌++◌}
+use mathlib.Core.List.{[], ◌∷◌, ◌++◌}
 use lib.ListN.{replicate}
 use Rattle.tables.specs.Choice.{pick, both}
 use Rattle.print.specs.Text.{bytes, front, behind, value_from, digits_of, decimal}

@@ -15,7 +15,6 @@ use Rattle.script.specs.Reading.{Left, left, bad, expect, literal, ended, found,
 use Rattle.script.specs.Reading.{making_from, making_with_k, start_of, steps_of, list_of, first_of, longest, line_of}
 use Rattle.script.specs.Form.{All, none, also, Numeral, Word, InForm, making, making_without_k, start, steps, list}
 use Rattle.script.specs.declared.lines.Line.{Line}
-use Rattle.script.specs.declared.lines.Line.TheVariants as Line
 use Rattle.script.proofs.Runs.{front_behind}
 
 -- a literal is read where it stands, and only there

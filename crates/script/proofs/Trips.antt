@@ -21,7 +21,6 @@ use Rattle.print.specs.declared.lines.StepLine.{StepLine}
 use Rattle.print.specs.declared.lines.AnswerLine.{AnswerLine}
 use Rattle.print.specs.declared.lines.CountLine.{CountLine}
 use Rattle.script.specs.declared.lines.Line.{Line}
-use Rattle.script.specs.declared.lines.Line.TheVariants as Line
 use Rattle.script.proofs.Grammar.{in_form_read}
 use Rattle.script.proofs.Decimals.{decimal_numeral, decimal_ten}
 

@@ -13,7 +13,6 @@ use Rattle.print.specs.Text.{bytes, is_digit, in_word, front, value_from, value_
 use Rattle.script.specs.Reading.{Left, left, bad, expect, ended, most, literal, field, number_in, is_word, op_of, op_in, op_behind, making_from, making_with_k, start_of, steps_of, list_of, first_of, longest, line_of}
 use Rattle.script.specs.Position.{left_at, found_at, belongs_to, value_in}
 use Rattle.script.specs.declared.lines.Line.{Line}
-use Rattle.script.specs.declared.lines.Line.TheVariants as Line
 use Rattle.script.specs.declared.read.Next.{Next}
 use Rattle.script.specs.declared.read.Next.TheVariants.{At, Bad}
 use Rattle.script.specs.declared.read.Found.{Found}

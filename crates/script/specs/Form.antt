@@ -3,7 +3,6 @@ use Rattle.std.specs.Prelude.{ℕ, ◌≤◌, ◌<◌, ◌≡◌, Bool, true, Li
 use Rattle.print.specs.Text.{bytes, is_digit, in_word, value_of}
 use Rattle.script.specs.Reading.{most, op_of}
 use Rattle.script.specs.declared.lines.Line.{Line}
-use Rattle.script.specs.declared.lines.Line.TheVariants as Line
 
 -- every byte passes a test
 pub data All (test : ℕ → Bool) : List ℕ → Type 0 where

@@ -3,7 +3,6 @@ use Rattle.std.specs.Prelude.{ℕ, Bool, true, false, List, [], ◌∷◌, leb, 
 use Rattle.tables.specs.Choice.{pick, both}
 use Rattle.print.specs.Text.{bytes, is_digit, in_word, front, behind, value_of}
 use Rattle.script.specs.declared.lines.Line.{Line}
-use Rattle.script.specs.declared.lines.Line.TheVariants as Line
 
 -- what is left of a line behind what was read of it; or the line is not in its form
 pub data Left : Type 0 where

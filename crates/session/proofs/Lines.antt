@@ -29,7 +29,7 @@ use Rattle.script.specs.declared.lines.Line.TheVariants as line
 use Rattle.print.specs.declared.lines.Making.{Making}
 use Rattle.print.specs.declared.lines.StartLine.{StartLine}
 use Rattle.print.specs.declared.lines.StepLine.{StepLine}
-use Rattle.session.specs.Line.{within_bench, turn_of, Did, did, Done, done, making_done, first_done, start_done, goes_on, steps_of, steps_said, steps_done, ListSaid, list_done, later_done, line_done}
+use Rattle.session.specs.Line.{within_bench, turn_of, Did, did, done, making_done, first_done, start_done, goes_on, steps_of, steps_said, steps_done, ListSaid, list_done, later_done, line_done}
 use Rattle.session.specs.declared.line.Stage.{Stage}
 use Rattle.session.specs.declared.line.Stage.TheVariants as stage
 use Rattle.session.specs.declared.line.Said.{Said}

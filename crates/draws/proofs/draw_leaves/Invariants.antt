@@ -6,7 +6,6 @@ use lib.ListN.{length, get_or}
 use Rattle.tables.specs.Choice.{listed}
 use Rattle.nodes.specs.Keys.{key_array}
 use Rattle.draws.specs.Draw.{leaves_from}
-use Rattle.draws.proofs.Laws.{leaves}
 use Rattle.draws.proofs.draw_leaves.Given as goal
 
 abbrev pub invariant-loop-i : goal.invariant-loop-i
