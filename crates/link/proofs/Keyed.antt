@@ -40,6 +40,7 @@ holds-mem x (y ∷ ys) e = go (eqb x y) refl e (λ z. holds-mem x ys z)
 
 pub mem-holds : (x : ℕ) (ks : List ℕ) → Memᴰ x ks → holds x ks ≡ true
 unfolding holds pick
+mem-holds x [] h = elim h [ ]
 mem-holds x (y ∷ ys) (Memᴰ.head e) = rw (eq-eqb x y e)
 mem-holds x (y ∷ ys) (Memᴰ.tail m) = go (eqb x y) (mem-holds x ys m)
   where

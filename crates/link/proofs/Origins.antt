@@ -115,7 +115,7 @@ module _ {s : State} {es : List Event} (reached : Reached s es) where
               whose : (desc_of (its_turn (good reached d.when) n v z b e).h' (row_of (block_at s es d.when) (header_at s es d.when) n (taken (W d.when) n)).block r).process ≡ n
               whose = (its_turn (good reached d.when) n v z b e).shift.drawn_by r (omega (arith, d.next)) (omega (arith, d.drawn, used_is))
 
-              by : ((row_of (block_at s es d.when) (header_at s es d.when) n (taken (W d.when) n)).stepped.process.own_val ≡ r)
+              by : ((row_of (block_at s es d.when) (header_at s es d.when) n (taken (W d.when) n)).stepped.process.own ≡ r)
                   × ((desc_of (its_turn (good reached d.when) n v z b e).h' (row_of (block_at s es d.when) (header_at s es d.when) n (taken (W d.when) n)).block r).operation ≡ (taken (W d.when) n).operation)
                   × ((desc_of (its_turn (good reached d.when) n v z b e).h' (row_of (block_at s es d.when) (header_at s es d.when) n (taken (W d.when) n)).block r).key ≡ (taken (W d.when) n).key)
               by = (its_turn (good reached d.when) n v z b e).drawn_as r (omega (arith, d.next)) (omega (arith, d.drawn, used_is))
