@@ -1,28 +1,20 @@
 -- A clear range and an empty listing, in the driver's words, from the claim alone.
-use Prim.Native.Nat.{ℕ, zero, suc, ◌+◌, ◌-◌, ◌≤◌, ◌<◌}
+use Prim.Native.Nat.{ℕ, suc, ◌+◌, ◌-◌, ◌≤◌, ◌<◌}
 use mathlib.Core.Path.{◌≡◌, refl, sym, ap, ◌∙◌, subst}
-use mathlib.Core.Logic.{◌⊎◌, inl, inr}
 use mathlib.Core.List.Memᴰ
 use mathlib.Core.List.{List, [], ◌∷◌, Memᴰ}
 use native.Mathlib.Omega.{arith}
-use native.Mathlib.Decide.{ℕ_discrete, dec_le}
+use native.Mathlib.Decide.{dec_le}
 use lib.ListN.{length}
 use Rattle.tables.specs.Numbers.{infinity}
-use Rattle.tables.specs.Layout.{child_word}
-use Rattle.tables.specs.declared.header.Header.{Header}
 use Rattle.tables.specs.declared.numbers.Refusal.TheVariants.{ListTooShort}
-use Rattle.process.specs.declared.Process.{Process}
-use Rattle.help.specs.Help.{helped_l, helped_p, helped_third}
 use Rattle.walk.specs.Calls.{ListOut, list_of, range_of}
 use Rattle.walk.specs.declared.Listed.TheVariants.{Count, Refused}
 use Rattle.walk.specs.declared.Cleared.TheVariants.{No, Yes}
-use Rattle.link.specs.Events.{Event, start, step, State, taken, event_at, state_at, block_at, header_at}
-use Rattle.link.specs.Swaps.{Swapping, seven, thirteen, ChildSwap}
-use Rattle.link.specs.Operations.{Started, OperationOf}
+use Rattle.link.specs.Events.{Event, State, block_at}
 use Rattle.link.specs.Sets.{InSet}
-use Rattle.link.proofs.Reached.{step_one}
 use Rattle.claim.proofs.Kept.{taken_between, swap_puts}
-use Rattle.claim.specs.Claim.{Claim, Changes, put_in, taken_out, SwapOf, Listing, Range, clear, met}
+use Rattle.claim.specs.Claim.{Claim, SwapOf, Listing, Range, clear, met}
 use Rattle.claim.specs.Kept.{Deleted}
 use Rattle.claim.specs.Flushed.{TakenOut, Flushed}
 

@@ -16,7 +16,7 @@ use Rattle.link.specs.Sets.{InSet}
 use Rattle.link.proofs.Reached.{step_one}
 use Rattle.claim.proofs.Operations.{start_same}
 use Rattle.claim.specs.Claim.{Claim, Changes, put_in, taken_out, SwapOf}
-use Rattle.claim.specs.Kept.{SwapFor, Inserted, Deleted, NotDeleted, Kept, Stayed, Carries}
+use Rattle.claim.specs.Kept.{Inserted, Deleted, NotDeleted, Kept, Stayed, Carries}
 
 -- whether an event is a child swap can be told
 swapping? : (b : List ℕ) (h : Header) (q : Process) → Dec (Swapping b h q)

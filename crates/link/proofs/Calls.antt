@@ -16,7 +16,7 @@ use Rattle.tables.specs.Refusal.{number_of, refusal}
 use Rattle.tables.specs.Header.{header_of, header_good}
 use Rattle.tables.specs.declared.header.Header.{Header}
 use Rattle.tables.proofs.Picks.{within_low, within_high, both_is}
-use Rattle.tables.proofs.Limits.{Limits, limits}
+use Rattle.tables.proofs.Limits.{Limits}
 use Rattle.process.specs.declared.Process.{Process}
 use Rattle.process.specs.Process.{started_as}
 use Rattle.process.specs.declared.StepAnswer.TheVariants.{Refused}

@@ -28,7 +28,7 @@ use Rattle.history.proofs.ChildWords.{kids_same}
 use Rattle.history.proofs.SetLaws.{step_set_same, step_set_swap}
 use Rattle.history.proofs.Runs.{sound_at, grown_at}
 use Rattle.history.proofs.Swapping.{SwapBetween, one_swap}
-use Rattle.link.specs.Events.{Event, step, State, taken, start_in, step_in, event_at, state_at, block_at, header_at, Proper, since_at}
+use Rattle.link.specs.Events.{Event, State, taken, start_in, step_in, event_at, state_at, block_at, header_at, Proper, since_at}
 use Rattle.link.specs.Swaps.{ChildSwap}
 use Rattle.link.specs.Operations.{NoStep, step_of_none, step_of_idle, NoStart}
 use Rattle.link.proofs.Moments.{tables, Why, Follows, already, afterwards, answers, k_low}

@@ -9,7 +9,7 @@ use Rattle.process.specs.declared.Process.{Process}
 use Rattle.process.specs.declared.Stepped.{Stepped}
 use Rattle.points.specs.Rows.{row_of}
 use Rattle.history.specs.View.{In}
-use Rattle.link.specs.Events.{Event, start, step, State, taken, step_in, event_at, state_at, block_at, header_at, since_at}
+use Rattle.link.specs.Events.{Event, start, step, State, taken, step_in, state_at, block_at, header_at, since_at}
 use Rattle.link.specs.Operations.{Draws}
 use Rattle.link.proofs.Calls.{step_done_in}
 use Rattle.link.proofs.Moments.{Busy}

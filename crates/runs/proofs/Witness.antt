@@ -22,7 +22,6 @@ use Rattle.points.specs.Rows.{row1, row2, row3, row_of, no_row}
 use Rattle.meter.specs.Walk.{in_order, walk_of}
 use Rattle.walk.specs.Calls.{keys_met}
 use Rattle.process.specs.Process.{idle}
-use Rattle.fresh.specs.declared.Made.TheVariants.{Done}
 use Rattle.process.specs.declared.Answer.TheVariants.{No, Yes, Full}
 use Rattle.make.specs.Make.{make_call}
 use Rattle.index.specs.Calls.{start_call, step_call}
@@ -37,7 +36,7 @@ use Rattle.claim.specs.Claim.{SwapOf, Changes, put_in, taken_out}
 use Rattle.claim.specs.Kept.{Demand}
 use Rattle.claim.proofs.Operations.{start_same}
 use Rattle.claim.proofs.Made.{demand_3}
-use Rattle.runs.specs.Run.{steps, Run}
+use Rattle.runs.specs.Run.{steps}
 use Rattle.runs.specs.Table.{run_c, run_g, run_j}
 use Rattle.runs.specs.Witness.{Helped, SaysNo, SaysFull, Witness}
 

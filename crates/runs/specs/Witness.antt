@@ -10,7 +10,6 @@ use Rattle.link.specs.Operations.{OperationOf, Answered}
 use Rattle.link.specs.Sets.{InSet}
 use Rattle.claim.specs.Claim.{SwapOf}
 use Rattle.claim.specs.Kept.{Demand}
-use Rattle.runs.specs.Run.{Run}
 use Rattle.runs.specs.Table.{run_c, run_g, run_j}
 
 -- (j). Event 18 starts process 1's delete of 3, event 28 process 2's insert of 4

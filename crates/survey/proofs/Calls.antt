@@ -11,7 +11,6 @@ use lib.ListN.{length}
 use borrow.Author.Tests.{lt-ltb, le-ltb, eq-eqb, ne_eqb}
 use Rattle.tables.specs.Choice.{pick, Reason, reason, NoneHolds, none, nor, First, either}
 use Rattle.tables.specs.Numbers.{infinity}
-use Rattle.nodes.specs.Keys.{holds}
 use Rattle.tables.specs.Layout.{block_words, over_front}
 use Rattle.tables.specs.Header.{header_of, block_reasons}
 use Rattle.tables.specs.declared.header.Header.{Header}
