@@ -7,11 +7,11 @@ use Rattle.held.specs.contracts.make_held
 use Rattle.held.specs.contracts.start_held
 use Rattle.held.specs.contracts.step_held
 
-pub make_held_one : OneOutcome make_held.ended (λ M. make_held.clauses {M = M})
+pub make_held_one : OneOutcome make_held.ended (λ M 𝓤. make_held.clauses {𝓤 = 𝓤})
 make_held_one w κs a o o' = one make_held.ended κs a (search codes depth 9) (λ (x : MakeOut). (record { answer = x.answer; row = x.row }, (x.block, o.1.1)))
 
-pub start_held_one : OneOutcome start_held.ended (λ M. start_held.clauses {M = M})
+pub start_held_one : OneOutcome start_held.ended (λ M 𝓤. start_held.clauses {𝓤 = 𝓤})
 start_held_one w κs a o o' = one start_held.ended κs a (search codes depth 9) (λ (x : StartOut). (record { answer = x.answer; row = x.row }, o.1))
 
-pub step_held_one : OneOutcome step_held.ended (λ M. step_held.clauses {M = M})
+pub step_held_one : OneOutcome step_held.ended (λ M 𝓤. step_held.clauses {𝓤 = 𝓤})
 step_held_one w κs a o o' = one step_held.ended κs a (search codes depth 9) (λ (x : StepOut). (record { answer = x.answer; row = x.row }, (x.block, o.1.1)))

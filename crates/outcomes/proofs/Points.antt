@@ -5,8 +5,8 @@ use Rattle.help.specs.Touch.{Out}
 use Rattle.points.specs.contracts.start.start
 use Rattle.points.specs.contracts.step.step
 
-pub start_one : OneOutcome start.ended (λ M. start.clauses {M = M})
+pub start_one : OneOutcome start.ended (λ M 𝓤. start.clauses {𝓤 = 𝓤})
 start_one w κs a o o' = one start.ended κs a (search codes depth 9) (λ x. (x, o.1))
 
-pub step_one : OneOutcome step.ended (λ M. step.clauses {M = M})
+pub step_one : OneOutcome step.ended (λ M 𝓤. step.clauses {𝓤 = 𝓤})
 step_one w κs a o o' = one step.ended κs a (search codes depth 9) (λ (x : Out). (x.stepped, (x.block, o.1.1)))

@@ -31,89 +31,89 @@ use Rattle.tables.specs.contracts.words.word_at
 use Rattle.tables.specs.contracts.words.put_at
 use Rattle.tables.specs.contracts.words.prev
 
-pub and_one : OneOutcome and.ended (λ M. and.clauses {M = M})
+pub and_one : OneOutcome and.ended (λ M 𝓤. and.clauses {𝓤 = 𝓤})
 and_one w κs a o o' = one and.ended κs a (search codes depth 9) (λ x. (x, o.1))
 
-pub or_one : OneOutcome or.ended (λ M. or.clauses {M = M})
+pub or_one : OneOutcome or.ended (λ M 𝓤. or.clauses {𝓤 = 𝓤})
 or_one w κs a o o' = one or.ended κs a (search codes depth 9) (λ x. (x, o.1))
 
-pub at_most_one : OneOutcome at_most.ended (λ M. at_most.clauses {M = M})
+pub at_most_one : OneOutcome at_most.ended (λ M 𝓤. at_most.clauses {𝓤 = 𝓤})
 at_most_one w κs a o o' = one at_most.ended κs a (search codes depth 9) (λ x. (x, o.1))
 
-pub below_one : OneOutcome below.ended (λ M. below.clauses {M = M})
+pub below_one : OneOutcome below.ended (λ M 𝓤. below.clauses {𝓤 = 𝓤})
 below_one w κs a o o' = one below.ended κs a (search codes depth 9) (λ x. (x, o.1))
 
-pub same_one : OneOutcome same.ended (λ M. same.clauses {M = M})
+pub same_one : OneOutcome same.ended (λ M 𝓤. same.clauses {𝓤 = 𝓤})
 same_one w κs a o o' = one same.ended κs a (search codes depth 9) (λ x. (x, o.1))
 
-pub within_one : OneOutcome within.ended (λ M. within.clauses {M = M})
+pub within_one : OneOutcome within.ended (λ M 𝓤. within.clauses {𝓤 = 𝓤})
 within_one w κs a o o' = one within.ended κs a (search codes depth 9) (λ x. (x, o.1))
 
-pub depth_one : OneOutcome depth.ended (λ M. depth.clauses {M = M})
+pub depth_one : OneOutcome depth.ended (λ M 𝓤. depth.clauses {𝓤 = 𝓤})
 depth_one w κs a o o' = one depth.ended κs a (search codes depth 9) (λ x. (x, o.1))
 
-pub node_at_one : OneOutcome node_at.ended (λ M. node_at.clauses {M = M})
+pub node_at_one : OneOutcome node_at.ended (λ M 𝓤. node_at.clauses {𝓤 = 𝓤})
 node_at_one w κs a o o' = one node_at.ended κs a (search codes depth 9) (λ x. (x, o.1))
 
-pub child_at_one : OneOutcome child_at.ended (λ M. child_at.clauses {M = M})
+pub child_at_one : OneOutcome child_at.ended (λ M 𝓤. child_at.clauses {𝓤 = 𝓤})
 child_at_one w κs a o o' = one child_at.ended κs a (search codes depth 9) (λ x. (x, o.1))
 
-pub pending_at_one : OneOutcome pending_at.ended (λ M. pending_at.clauses {M = M})
+pub pending_at_one : OneOutcome pending_at.ended (λ M 𝓤. pending_at.clauses {𝓤 = 𝓤})
 pending_at_one w κs a o o' = one pending_at.ended κs a (search codes depth 9) (λ x. (x, o.1))
 
-pub block_words_one : OneOutcome block_words.ended (λ M. block_words.clauses {M = M})
+pub block_words_one : OneOutcome block_words.ended (λ M 𝓤. block_words.clauses {𝓤 = 𝓤})
 block_words_one w κs a o o' = one block_words.ended κs a (search codes depth 9) (λ x. (x, o.1))
 
-pub record_at_one : OneOutcome record_at.ended (λ M. record_at.clauses {M = M})
+pub record_at_one : OneOutcome record_at.ended (λ M 𝓤. record_at.clauses {𝓤 = 𝓤})
 record_at_one w κs a o o' = one record_at.ended κs a (search codes depth 9) (λ x. (x, o.1))
 
-pub stack_at_one : OneOutcome stack_at.ended (λ M. stack_at.clauses {M = M})
+pub stack_at_one : OneOutcome stack_at.ended (λ M 𝓤. stack_at.clauses {𝓤 = 𝓤})
 stack_at_one w κs a o o' = one stack_at.ended κs a (search codes depth 9) (λ x. (x, o.1))
 
-pub node_word_one : OneOutcome node_word.ended (λ M. node_word.clauses {M = M})
+pub node_word_one : OneOutcome node_word.ended (λ M 𝓤. node_word.clauses {𝓤 = 𝓤})
 node_word_one w κs a o o' = one node_word.ended κs a (search codes depth 9) (λ x. (x, o.1))
 
-pub tag_word_one : OneOutcome tag_word.ended (λ M. tag_word.clauses {M = M})
+pub tag_word_one : OneOutcome tag_word.ended (λ M 𝓤. tag_word.clauses {𝓤 = 𝓤})
 tag_word_one w κs a o o' = one tag_word.ended κs a (search codes depth 9) (λ x. (x, o.1))
 
-pub key_word_one : OneOutcome key_word.ended (λ M. key_word.clauses {M = M})
+pub key_word_one : OneOutcome key_word.ended (λ M 𝓤. key_word.clauses {𝓤 = 𝓤})
 key_word_one w κs a o o' = one key_word.ended κs a (search codes depth 9) (λ x. (x, o.1))
 
-pub child_word_one : OneOutcome child_word.ended (λ M. child_word.clauses {M = M})
+pub child_word_one : OneOutcome child_word.ended (λ M 𝓤. child_word.clauses {𝓤 = 𝓤})
 child_word_one w κs a o o' = one child_word.ended κs a (search codes depth 9) (λ x. (x, o.1))
 
-pub pending_word_one : OneOutcome pending_word.ended (λ M. pending_word.clauses {M = M})
+pub pending_word_one : OneOutcome pending_word.ended (λ M 𝓤. pending_word.clauses {𝓤 = 𝓤})
 pending_word_one w κs a o o' = one pending_word.ended κs a (search codes depth 9) (λ x. (x, o.1))
 
-pub record_word_one : OneOutcome record_word.ended (λ M. record_word.clauses {M = M})
+pub record_word_one : OneOutcome record_word.ended (λ M 𝓤. record_word.clauses {𝓤 = 𝓤})
 record_word_one w κs a o o' = one record_word.ended κs a (search codes depth 9) (λ x. (x, o.1))
 
-pub stack_word_one : OneOutcome stack_word.ended (λ M. stack_word.clauses {M = M})
+pub stack_word_one : OneOutcome stack_word.ended (λ M 𝓤. stack_word.clauses {𝓤 = 𝓤})
 stack_word_one w κs a o o' = one stack_word.ended κs a (search codes depth 9) (λ x. (x, o.1))
 
-pub read_header_one : OneOutcome read_header.ended (λ M. read_header.clauses {M = M})
+pub read_header_one : OneOutcome read_header.ended (λ M 𝓤. read_header.clauses {𝓤 = 𝓤})
 read_header_one w κs a o o' = one read_header.ended κs a (search codes depth 9) (λ x. (x, o.1))
 
-pub number_of_one : OneOutcome number_of.ended (λ M. number_of.clauses {M = M})
+pub number_of_one : OneOutcome number_of.ended (λ M 𝓤. number_of.clauses {𝓤 = 𝓤})
 number_of_one w κs a o o' = one number_of.ended κs a (search codes depth 9) (λ x. (x, o.1))
 
-pub k_stored_one : OneOutcome k_stored.ended (λ M. k_stored.clauses {M = M})
+pub k_stored_one : OneOutcome k_stored.ended (λ M 𝓤. k_stored.clauses {𝓤 = 𝓤})
 k_stored_one w κs a o o' = one k_stored.ended κs a (search codes depth 9) (λ x. (x, o.1))
 
-pub fresh_nodes_one : OneOutcome fresh_nodes.ended (λ M. fresh_nodes.clauses {M = M})
+pub fresh_nodes_one : OneOutcome fresh_nodes.ended (λ M 𝓤. fresh_nodes.clauses {𝓤 = 𝓤})
 fresh_nodes_one w κs a o o' = one fresh_nodes.ended κs a (search codes depth 9) (λ x. (x, o.1))
 
-pub node_words_one : OneOutcome node_words.ended (λ M. node_words.clauses {M = M})
+pub node_words_one : OneOutcome node_words.ended (λ M 𝓤. node_words.clauses {𝓤 = 𝓤})
 node_words_one w κs a o o' = one node_words.ended κs a (search codes depth 9) (λ x. (x, o.1))
 
-pub numbers_good_one : OneOutcome numbers_good.ended (λ M. numbers_good.clauses {M = M})
+pub numbers_good_one : OneOutcome numbers_good.ended (λ M 𝓤. numbers_good.clauses {𝓤 = 𝓤})
 numbers_good_one w κs a o o' = one numbers_good.ended κs a (search codes depth 9) (λ x. (x, o.1))
 
-pub word_at_one : OneOutcome word_at.ended (λ M. word_at.clauses {M = M})
+pub word_at_one : OneOutcome word_at.ended (λ M 𝓤. word_at.clauses {𝓤 = 𝓤})
 word_at_one w κs a o o' = one word_at.ended κs a (search codes depth 9) (λ x. (x, o.1))
 
-pub put_at_one : OneOutcome put_at.ended (λ M. put_at.clauses {M = M})
+pub put_at_one : OneOutcome put_at.ended (λ M 𝓤. put_at.clauses {𝓤 = 𝓤})
 put_at_one w κs a o o' = one put_at.ended κs a (search codes depth 9) (λ x. (o.0, (x, o.1.1)))
 
-pub prev_one : OneOutcome prev.ended (λ M. prev.clauses {M = M})
+pub prev_one : OneOutcome prev.ended (λ M 𝓤. prev.clauses {𝓤 = 𝓤})
 prev_one w κs a o o' = one prev.ended κs a (search codes depth 9) (λ x. (x, o.1))

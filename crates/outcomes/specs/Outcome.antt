@@ -26,7 +26,7 @@ module _ (T : Ended) (c : (M : Type 1) (𝓤 : Ura M) (𝓛 : Logic 𝓤) → (M
   -- the outcome o meets the promise, in some state of the logic
   abbrev pub Promised : (w : Model) (κs : Lfts T.signature.lifetimes) (a : Args T.signature κs) → Outcome κs a → Type 1
   Promised w κs a o =
-      let d = c w.M w.𝓤 w w.mem w.run κs a in
+      let d = c w.M w.𝓤 w.𝓛 w.mem w.run κs a in
       (g : d.ghost) × (m : w.M) × (d.ensures g o.0 (at_exit T κs a o.1)).holds m
 
   -- two outcomes that both meet the promise for the same arguments are seen alike.
