@@ -13,7 +13,7 @@ use Rattle.history.proofs.Lasting.{grown}
 use Rattle.history.proofs.Descent.{Way, Read, Up, Above, AtLeaf, Counted, way_stays, read_stays, up_stays}
 use Rattle.history.proofs.Descent.{above_stays, leaf_stays, counted_stays}
 use Rattle.history.proofs.Helps.{Helps, Ends, helps_stays}
-use Rattle.history.proofs.Stacks.{Stacked, Goes_on, stack_stays, goes_on_stays}
+use Rattle.history.proofs.Stacks.{Stacked, GoesOn, stack_stays, goes_on_stays}
 
 -- a process record, as numbers: pending values are words, and `ones` counts the ones of the mask
 pub record Mind : Type 0 where
@@ -92,7 +92,7 @@ pub record Serves (k : ℕ) (s : Shared) (M : Mind) (point : ℕ) : Type 0 where
   pub used : In s.records M.helped
   pub helps : Helps k s M.helped M.index M.other point
   pub stacked : Stacked k s M.stack M.depth
-  pub goes_on : point ≡ 9 → Goes_on s M.stack M.depth M.helped
+  pub goes_on : point ≡ 9 → GoesOn s M.stack M.depth M.helped
   pub on_top : point ≡ 10 → (d : ℕ) → M.depth ≡ suc d → M.helped ≡ M.stack d
   pub own : Owns s M
 

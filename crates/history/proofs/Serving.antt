@@ -7,7 +7,7 @@ use Rattle.history.specs.View.{In}
 use Rattle.history.specs.Shared.{Shared, Failed}
 use Rattle.history.proofs.Helping.{passed_first, noted_first}
 use Rattle.history.proofs.Helps.{Marks, Helps}
-use Rattle.history.proofs.Stacks.{Stacked, Goes_on, stack_push, stack_front, goes_on_next}
+use Rattle.history.proofs.Stacks.{Stacked, GoesOn, stack_push, stack_front, goes_on_next}
 use Rattle.history.proofs.Knows.{Mind, Owns, none_yet, owns, Serves}
 
 module _ {k : ℕ} {s : Shared} {M : Mind} (hk : 2 ≤ k) (r : ℕ) (h : In s.records r) (helped : M.helped ≡ r)
@@ -24,7 +24,7 @@ module _ {k : ℕ} {s : Shared} {M : Mind} (hk : 2 ≤ k) (r : ℕ) (h : In s.re
   }
 
   -- a prune: to 9
-  pub serve_prune : (s.rec r).kind ≡ 2 → Goes_on s M.stack M.depth r → Serves k s M 9
+  pub serve_prune : (s.rec r).kind ≡ 2 → GoesOn s M.stack M.depth r → Serves k s M 9
   serve_prune kd g = record { used = rw helped h; helps = rw helped kd; stacked = st; goes_on = λ z. rw helped g; on_top = λ z. absurd (omega arith); own = own }
 
   -- a mark: to 11 with its record, index 1, nothing noted
@@ -88,5 +88,5 @@ module _ {k : ℕ} {s : Shared} {M : Mind} (M' : Mind) (w : Serves k s M 9) (fai
   pub pushed : Stacked k s M'.stack M'.depth
   pushed = rw deeper (stack_push same new w.used failed (w.goes_on refl) w.stacked)
 
-  pub met_there : {q : ℕ} → (s.rec q).third ≡ (s.rec M.helped).p → Goes_on s M'.stack M'.depth q
+  pub met_there : {q : ℕ} → (s.rec q).third ≡ (s.rec M.helped).p → GoesOn s M'.stack M'.depth q
   met_there e = rw deeper (goes_on_next new e)

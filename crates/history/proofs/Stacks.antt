@@ -18,7 +18,7 @@ pub record Stacked (k : ℕ) (S : Shared) (f : ℕ → ℕ) (d : ℕ) : Type 0 w
   pub linked : (i : ℕ) → suc i < d → (S.rec (f (suc i))).third ≡ (S.rec (f i)).p
 
 -- record r goes on where the stack ends
-pub record Goes_on (S : Shared) (f : ℕ → ℕ) (d r : ℕ) : Type 0 where
+pub record GoesOn (S : Shared) (f : ℕ → ℕ) (d r : ℕ) : Type 0 where
   pub next : (e : ℕ) → suc e ≡ d → (S.rec r).third ≡ (S.rec (f e)).p
 
 pub stack_empty : {k : ℕ} {S : Shared} {f : ℕ → ℕ} → Stacked k S f 0
@@ -26,7 +26,7 @@ stack_empty = record { used = λ i h. absurd (omega arith); failed = λ i h. abs
 
 -- the words below are those that they were, and the new top is r
 pub stack_push : {k : ℕ} {S : Shared} {f f' : ℕ → ℕ} {d r : ℕ} → ((i : ℕ) → i < d → f' i ≡ f i) → f' d ≡ r → In S.records r
-    → Failed S.view (S.rec r) r → Goes_on S f d r → Stacked k S f d → Stacked k S f' (suc d)
+    → Failed S.view (S.rec r) r → GoesOn S f d r → Stacked k S f d → Stacked k S f' (suc d)
 stack_push {k} {S} {f} {f'} {d} {r} same new h fl g s = record {
   used = λ i a. us i a (ℕ_discrete i d);
   failed = λ i a. fa i a (ℕ_discrete i d);
@@ -46,7 +46,7 @@ stack_push {k} {S} {f} {f'} {d} {r} same new h fl g s = record {
     li i a (no e) = rw (same i (omega arith), same (suc i) (omega arith)) (s.linked i (omega arith))
 
 -- the record met at the p of the new top goes on from there, if it is a prune
-pub goes_on_next : {S : Shared} {f : ℕ → ℕ} {d r q : ℕ} → f d ≡ r → (S.rec q).third ≡ (S.rec r).p → Goes_on S f (suc d) q
+pub goes_on_next : {S : Shared} {f : ℕ → ℕ} {d r q : ℕ} → f d ≡ r → (S.rec q).third ≡ (S.rec r).p → GoesOn S f (suc d) q
 goes_on_next {S} {f} {d} {r} {q} new e = record { next = λ a z. (let b : a ≡ d = omega arith in rw (b, new) e) }
 
 -- the lower entries of a stack, in words that are as they were: after a pop, and where nothing moved
@@ -71,10 +71,10 @@ module _ {k : ℕ} {S S' : Shared} (hk : 2 ≤ k) (I : Sound k S) (c : Step k S 
             (s.linked i h);
       }
 
-  pub goes_on_stays : {f : ℕ → ℕ} {d r : ℕ} → Stacked k S f d → In S.records r → Goes_on S f d r → Goes_on S' f d r
+  pub goes_on_stays : {f : ℕ → ℕ} {d r : ℕ} → Stacked k S f d → In S.records r → GoesOn S f d r → GoesOn S' f d r
   goes_on_stays {f} {d} {r} s h n = go (grown hk I c)
     where
-      go : Grown S S' → Goes_on S' f d r
+      go : Grown S S' → GoesOn S' f d r
       go g = record { next = λ e z. rw (g.rec_same r h, g.rec_same (f e) (s.used e (omega arith))) (n.next e z) }
 
 -- the p's of the entries are internal nodes above the dummy, each above the one below

@@ -20,7 +20,7 @@ use Rattle.history.specs.View.{In}
 use Rattle.history.specs.Shared.{Shared}
 use Rattle.history.proofs.Invariant.{Word, clean, replacing, pruning, marked}
 use Rattle.history.proofs.Helps.{Marks}
-use Rattle.history.proofs.Stacks.{Stacked, Goes_on}
+use Rattle.history.proofs.Stacks.{Stacked, GoesOn}
 use Rattle.history.proofs.Descent.{Read}
 use Rattle.history.proofs.Knows.{Mind, Owns, none_yet, owns}
 use Rattle.history.proofs.Serving.{serve_replace, serve_prune, serve_mark, serve_top}
@@ -123,7 +123,7 @@ module _ {hs : ℕ → Header} {bs : ℕ → List ℕ} {i j : ℕ} (n : ℕ) (no
       go (no e) = rw (ne_eqb q₀.depth 0 e) (to_top (q₀.depth - 1) (sym (more q₀.depth e)))
 
   -- a value seen of node a
-  module _ {a v : ℕ} (r : Read (tables hs bs j) a v) (late : Late (hs 0).recordsused (pending_of v)) (goes : (m : ℕ) → ((tables hs bs j).rec m).third ≡ a → Goes_on (tables hs bs j) (stack_of (hs j) b' n) q₀.depth m) where
+  module _ {a v : ℕ} (r : Read (tables hs bs j) a v) (late : Late (hs 0).recordsused (pending_of v)) (goes : (m : ℕ) → ((tables hs bs j).rec m).third ≡ a → GoesOn (tables hs bs j) (stack_of (hs j) b' n) q₀.depth m) where
     by_value : (u : Pending) → pending_of v ≡ u → Follows hs bs i j n (hs j) b' q (helping top q₀ u) → Follows hs bs i j n (hs j) b' q (helping top q₀ (pending_of v))
     by_value u e f = subst (λ (x : Pending). Follows hs bs i j n (hs j) b' q (helping top q₀ x)) (sym e) f
 
