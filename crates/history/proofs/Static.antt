@@ -96,14 +96,14 @@ module _ (k u u' : ℕ) (t t' : View) (more : u ≤ u') (tag_same : (n : ℕ) �
       }
 
 -- a child word is as it was, or one that may hang there: never of the root, of the dummy only the first
-data Kid-word (u : ℕ) (t t' : View) (n j : ℕ) : Type 0 where
-  same_word : t'.child n j ≡ t.child n j → Kid-word u t t' n j
-  new_word : 2 ≤ n → (n ≡ 2 → j ≡ 1) → n < t'.child n j → t'.child n j ≤ u → Kid-word u t t' n j
+data KidWord (u : ℕ) (t t' : View) (n j : ℕ) : Type 0 where
+  same_word : t'.child n j ≡ t.child n j → KidWord u t t' n j
+  new_word : 2 ≤ n → (n ≡ 2 → j ≡ 1) → n < t'.child n j → t'.child n j ≤ u → KidWord u t t' n j
 
 -- tags and keys as they were, children such words, leaves still clean
 shape_words : {k u : ℕ} {t t' : View} → 2 ≤ k → Shape k u t → ((n : ℕ) → In u n → t'.tag n ≡ t.tag n)
     → ((n : ℕ) → In u n → t'.key n ≡ t.key n)
-    → ((n j : ℕ) → In u n → t.tag n ≡ k → In k j → Kid-word u t t' n j) → ((n : ℕ) → In u n → t.tag n ≢ k → t'.pend n ≡ 0) → Shape k u t'
+    → ((n j : ℕ) → In u n → t.tag n ≡ k → In k j → KidWord u t t' n j) → ((n : ℕ) → In u n → t.tag n ≢ k → t'.pend n ≡ 0) → Shape k u t'
 shape_words {k} {u} {t} {t'} hk s tag_same key_same kid quiet = record {
   crown = record {
     root_inner = tag_same 1 one ∙ s.crown.root_inner;
@@ -136,22 +136,22 @@ shape_words {k} {u} {t} {t'} hk s tag_same key_same kid quiet = record {
     root_kid : (j : ℕ) → In k j → t'.child 1 j ≡ t.child 1 j
     root_kid j i = go (kid 1 j one s.crown.root_inner i)
       where
-        go : Kid-word u t t' 1 j → t'.child 1 j ≡ t.child 1 j
+        go : KidWord u t t' 1 j → t'.child 1 j ≡ t.child 1 j
         go (same_word e) = e
         go (new_word a b c d) = absurd (omega arith)
 
     dummy_kid : (j : ℕ) → 2 ≤ j → In k j → t'.child 2 j ≡ t.child 2 j
     dummy_kid j l i = go (kid 2 j two s.crown.dummy_inner i)
       where
-        go : Kid-word u t t' 2 j → t'.child 2 j ≡ t.child 2 j
+        go : KidWord u t t' 2 j → t'.child 2 j ≡ t.child 2 j
         go (same_word e) = e
         go (new_word a b c d) = absurd (omega (arith, b refl))
 
-    up : (n j : ℕ) → In u n → t.tag n ≡ k → In k j → Kid-word u t t' n j → n < t'.child n j
+    up : (n j : ℕ) → In u n → t.tag n ≡ k → In k j → KidWord u t t' n j → n < t'.child n j
     up n j h q i (same_word e) = rw e (s.above n j h q i)
     up n j h q i (new_word a b c d) = c
 
-    us : (n j : ℕ) → In u n → t.tag n ≡ k → In k j → Kid-word u t t' n j → t'.child n j ≤ u
+    us : (n j : ℕ) → In u n → t.tag n ≡ k → In k j → KidWord u t t' n j → t'.child n j ≤ u
     us n j h q i (same_word e) = rw e (s.used n j h q i)
     us n j h q i (new_word a b c d) = d
 
@@ -168,7 +168,7 @@ shape_child {k} {u} {t} {t'} {p} {i} {v} hk s w hp h2 hv hu =
     shape_words hk s w.tag_same w.key_same (λ n j h q a. word n j h a (here? n p j i))
     (λ n h e. w.pend_same n h ∙ s.leaf_clean n h e)
   where
-    word : (n j : ℕ) → In u n → In k j → Dec ((n ≡ p) × (j ≡ i)) → Kid-word u t t' n j
+    word : (n j : ℕ) → In u n → In k j → Dec ((n ≡ p) × (j ≡ i)) → KidWord u t t' n j
     word n j h a (yes z) =
         new_word (omega (arith, z.0)) (λ e. z.1 ∙ h2 (sym z.0 ∙ e)) (rw (z.0, z.1, w.child_new) hv)
         (rw (z.0, z.1, w.child_new) hu)
