@@ -5,28 +5,21 @@ set -euo pipefail
 top=$(cd "$(dirname "${BASH_SOURCE[0]}")" && pwd -P)
 runs=${1:-5}
 [[ $# -le 1 && $runs =~ ^[1-9][0-9]*$ ]] || { echo "usage: speed.sh [RUNS]" >&2; exit 2; }
-rt=$(command -v rt) || { echo "speed.sh: the Rattle kit's command rt is missing" >&2; exit 1; }
+command -v rt > /dev/null || { echo "speed.sh: the Rattle kit's command rt is missing" >&2; exit 1; }
 command -v rustc > /dev/null || { echo "speed.sh: rustc is missing, which builds the peer" >&2; exit 1; }
 room=$(mktemp -d)
 trap 'rm -rf "$room"' EXIT
-program=$top/target/bin/speed
-if [ ! -x "$program" ] || [ -n "$(find "$top/crates" "$top/crates.txt" -newer "$program" -print -quit)" ]; then
+# rt leaves a program that it has proved and built in the crate's folder out. What it makes there, and the crates' folders themselves, are no sources.
+program=$top/crates/speed/out/speed
+if [ ! -x "$program" ] || [ "$top/crates.txt" -nt "$program" ] || [ -n "$(find "$top/crates" -mindepth 2 -regex ".*/crates/[^/]*/out" -prune -o -newer "$program" -print -quit)" ]; then
     echo "speed.sh: proving and building the speed program, where a source is newer than it" >&2
-    said=$(cd "$top" && rt check speed 2>&1) || { printf '%s\n' "$said" >&2; exit 1; }
+    said=$(cd "$top/crates/speed" && rt run < /dev/null 2>&1) || { printf '%s\n' "$said" >&2; exit 1; }
 fi
-# Both for x86-64 without its later extensions, and at their compiler's highest level.
-rustc -C opt-level=3 -C codegen-units=1 --target x86_64-unknown-linux-gnu --edition 2021 "$top/peer/src/main.rs" -o "$room/peer" ||
+# The peer at its compiler's highest level, and for the processor that the kit builds programs for.
+rustc -C opt-level=3 -C codegen-units=1 -C target-cpu=x86-64-v2 --target x86_64-unknown-linux-gnu --edition 2021 "$top/peer/src/main.rs" -o "$room/peer" ||
     { echo "speed.sh: rustc cannot build the peer for x86-64, for which programs of the kit are built" >&2; exit 1; }
-# Both under the kit's loader and C library; on another processor its emulator runs them, as in bench.sh.
-kit=$(cd "$(dirname "$(readlink -f "$rt")")/.." && pwd -P)
-tools=${RATTLE_HOME:-$kit}/on/$(uname -m)/toolchain
-run=("$tools/lib/ld-linux-x86-64.so.2" --library-path "$tools/lib")
-if [ -x "$tools/bin/qemu-x86_64" ]; then
-    run=("$tools/bin/qemu-x86_64" -E GLIBC_TUNABLES=glibc.cpu.x86_rep_movsb_threshold=1000000 "${run[@]}")
-    echo "Under an emulator: its times say little of a processor's."
-fi
-ours=("${run[@]}" "$program")
-peer=("${run[@]}" "$room/peer" speed)
+ours=("$program")
+peer=("$room/peer" speed)
 
 # What can count instructions here: the processor, or else valgrind.
 counter=none

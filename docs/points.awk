@@ -1,5 +1,5 @@
 # The fourteen points from their definitions: of each row of the Rows.antt of points, flag, finish and mark what it touches, and where it, or a definition that it uses,
-# sends the process. "help" and "end" are the definitions helping and helpEnded of help/specs/Help.antt. Prints a table, or with -v svg=1 a drawing.
+# sends the process. "help" and "end" are the definitions helping and help_ended of help/specs/Help.antt. Prints a table, or with -v svg=1 a drawing.
 
 # Definitions stand one to a paragraph: the words behind the signature, without comments and without left-hand sides.
 function read(file,    line, name, word) {
@@ -22,7 +22,7 @@ function behind(text,    at, deep, c) {
     return substr(text, at + 1)
 }
 
-# The numbers of a text that stand in no parentheses: points, where they are arguments of lookRow and hangRow, and where 3 chooses.
+# The numbers of a text that stand in no parentheses: points, where they are arguments of look_row and hang_row, and where 3 chooses.
 function numbers(from, text,    n, word, i) {
     while (gsub(/\([^()]*\)/, "", text)) {}
     n = split(text, word, " ")
@@ -32,15 +32,15 @@ function numbers(from, text,    n, word, i) {
 function follow(from, name,    text, rest, at, n, word, i) {
     if (met[from, name]++) return
     text = body[name]
-    if (text ~ /(lookRow|hangRow) / || name == "pointAfter3") numbers(from, text)
-    for (rest = text; (at = index(rest, "withPoint ")) > 0;) {
-        rest = behind(substr(rest, at + 10))
+    if (text ~ /(look_row|hang_row) / || name == "point_after3") numbers(from, text)
+    for (rest = text; (at = index(rest, "with_point ")) > 0;) {
+        rest = behind(substr(rest, at + 11))
         if (match(rest, /^[0-9]+/)) leads[from, substr(rest, 1, RLENGTH)] = 1
     }
     n = split(text, word, /[ ()]+/)
     for (i = 1; i <= n; i++) {
         if (word[i] in to) leads[from, to[word[i]]] = 1
-        else if (word[i] == "withIndex") leads[from, from] = 1
+        else if (word[i] == "with_index") leads[from, from] = 1
         else if (word[i] == "answer") leads[from, answer[word[i + 1]]] = 1
         else if (word[i] in body) follow(from, word[i])
     }
@@ -48,12 +48,12 @@ function follow(from, name,    text, rest, at, n, word, i) {
 
 function touch(n,    text, node) {
     text = ("touch" n) in body ? body["touch" n] : body["row" n]
-    match(text, /q \.gp|q \.p|helpedP|helpedThird/)
+    match(text, /q\.gp|q\.p|helped_p|helped_third/)
     node = substr(text, RSTART, RLENGTH)
-    node = node == "q .p" || node == "helpedP" ? "p" : "gp"
-    if (text ~ /lookRow|readChild/) return "reads a child of " node
-    if (text ~ /hangRow/) return "swaps a child of " node
-    return (text ~ /readPending/ ? "reads " : "swaps ") node "'s pending"
+    node = node == "q.p" || node == "helped_p" ? "p" : "gp"
+    if (text ~ /look_row|read_child/) return "reads a child of " node
+    if (text ~ /hang_row/) return "swaps a child of " node
+    return (text ~ /read_pending/ ? "reads " : "swaps ") node "'s pending"
 }
 
 function table(    i, j, line) {
@@ -114,8 +114,8 @@ function drawing(    i, j) {
 }
 
 BEGIN {
-    to["toThree"] = 3; to["toSix"] = 6; to["toNine"] = 9; to["toTen"] = 10; to["toEleven"] = 11; to["toTwelve"] = 12
-    to["restartedOf"] = "restart"; to["helping"] = "help"; to["helpEnded"] = "end"
+    to["to_three"] = 3; to["to_six"] = 6; to["to_nine"] = 9; to["to_ten"] = 10; to["to_eleven"] = 11; to["to_twelve"] = 12
+    to["restarted_of"] = "restart"; to["helping"] = "help"; to["help_ended"] = "end"
     answer[0] = "no"; answer[1] = "yes"; answer[2] = "full"
     places = split("1 2 3 4 5 6 7 8 9 10 11 12 13 14 help end restart no yes full", place, " ")
     read("crates/points/specs/Rows.antt")
@@ -130,6 +130,6 @@ BEGIN {
         label[n] = touch(n)
     }
     follow("help", "helping"); label["help"] = "help what was seen"
-    follow("end", "helpEnded"); label["end"] = "help has ended"
+    follow("end", "help_ended"); label["end"] = "help has ended"
     if (svg) drawing(); else table()
 }
