@@ -4,7 +4,7 @@
 #   ./faults.sh                    every fault of faults/definitions, and what the peer makes of it   (docs/FAULTS.md)
 #   ./faults.sh useless            every build of faults/useless                                      (docs/USELESS.md)
 #   ./faults.sh [useless] NAME ..  some of them
-# It is no part of the gate. It fails if a fault is not refused, or the peer finds no harm in it. What is proved in target/ is not proved again.
+# It is no part of the gate. It fails if a fault is not refused, or the peer finds no harm in it. What checks on this machine have kept is not proved again.
 set -euo pipefail
 cd "$(dirname "$0")"
 for tool in rt git rustc; do command -v $tool > /dev/null || { echo "faults: $tool is missing" >&2; exit 1; }; done
@@ -34,18 +34,26 @@ is_reached() { local base; is_needed "$1" || return 1; for base in "${edited[@]}
 is_between() { is_reached "$1" && ! stands_on "$1" link && [ "$1" != runs ]; }
 
 copy() { # FROM TO
-    mkdir -p "$2/crates" "$2/target"
+    local part
     for crate in "${order[@]}"; do
-        if is_needed "$crate"; then cp -r "$1/crates/$crate" "$2/crates/"; echo "$crate:${deps[$crate]}" >> "$2/crates.txt"; fi
+        is_needed "$crate" || continue
+        mkdir -p "$2/crates/$crate"
+        for part in src specs proofs; do if [ -d "$1/crates/$crate/$part" ]; then cp -r "$1/crates/$crate/$part" "$2/crates/$crate/"; fi; done
+        echo "$crate:${deps[$crate]}" >> "$2/crates.txt"
     done
-    for part in rlib stamp; do if [ -d "$1/target/$part" ]; then cp -r "$1/target/$part" "$2/target/"; fi; done
 }
 
-# Sets the code of a crate aside; its types and definitions stay.
+# Sets the code of a crate aside, functions with the attributes before them; its types and definitions stay.
 without_code() { # FOLDER CRATE
     local file
     find "$1/crates/$2/src" -name '*.rt' | while read -r file; do
-        awk '/^(pub )?fn / { skip = 1 } skip { if (/^}/) skip = 0; next } /^ghost use / { next } { print }' "$file" > "$room/cut"
+        awk '
+            /^#\[/ { open = 1 }
+            open { held = held $0 "\n"; if (/\]$/) open = 0; next }
+            /^(pub )?fn / { skip = 1; held = "" }
+            skip { if (/^}/) skip = 0; next }
+            /^ghost use / { next }
+            { printf "%s", held; held = ""; print }' "$file" > "$room/cut"
         cp "$room/cut" "$file"
     done
     find "$1/crates/$2/proofs" -mindepth 1 -maxdepth 1 -type d -exec rm -r {} +
@@ -55,13 +63,13 @@ without_code() { # FOLDER CRATE
 laws_in() { # CRATE FILE-OR-FOLDER ..
     local crate=$1
     shift
-    { grep -rhoE "Rattle·$crate(\.|·proofs\.)proofs\.[A-Z][A-Za-z]*" "$@" || true; } | sed 's/.*\.//' | sort -u
+    { grep -rhoE "Rattle\.$crate\.proofs\.[A-Z][A-Za-z]*" "$@" || true; } | sed 's/.*\.//' | sort -u
 }
 
 # Sets the laws of a crate aside that neither its functions' proofs nor the crates above it cite, but for its computed examples.
 without_uncited() { # FOLDER CRATE
     local proofs="$1/crates/$2/proofs" cited='' more law
-    mapfile -t citing < <(find "$1/crates" -path "$proofs/*.antt" ! -path "$proofs/*/*" -o -name '*.antt' -print)
+    mapfile -t citing < <(find "$1/crates" -path "$proofs/*.antt" ! -path "$proofs/*/*" -o \( -name '*.antt' -o -name '*.rt' \) -print)
     more=$(laws_in "$2" "${citing[@]}")
     while [ "$more" != "$cited" ]; do
         cited=$more
@@ -79,32 +87,40 @@ without_uncited() { # FOLDER CRATE
 lines_apart() { # FOLDER
     local holds="$1/crates/runs/proofs/Holds.antt" unfolded i=0 letter
     unfolded=$(grep '^unfolding ' "$holds")
-    sed -i -e '/^pub runs-hold/,$d' -e 's/^use lib\.Count/use lib.ListN.{take, drop}\n&/' "$holds"
+    sed -i -e '/^pub runs_hold/,$d' -e 's/^use lib\.Count/use lib.ListN.{take, drop}\n&/' "$holds"
     for letter in a b c d e f g h i j; do
-        printf 'pub run-%s : map measured (take 1 (drop %s table)) ≡ map expected (take 1 (drop %s table))\n%s\nrun-%s = refl\n\n' $letter $i $i "$unfolded" $letter
+        printf 'pub run_%s : map measured (take 1 (drop %s table)) ≡ map expected (take 1 (drop %s table))\n%s\nrun_%s = refl\n\n' $letter $i $i "$unfolded" $letter
         i=$((i + 1))
     done >> "$holds"
 }
 
 # Proves what demand 3 and the runs stand on; says which crates are refused, and where. Counts them.
 prove() { # FOLDER
+    local line
     refusals=0
-    (cd "$1" && RT_CUT=0 rt check "${tops[@]}") > "$1/said" 2>&1 || true
+    (cd "$1" && rt all check) > "$1/said" 2>&1 || true
+    grep -qx '== summary' "$1/said" || { echo "faults: rt all check did not come to its summary:" >&2; tail -n 20 "$1/said" >&2; exit 1; }
     for crate in "${order[@]}"; do
-        if grep -q "^rt: $crate NOT PROVED (" "$1/said"; then refused "$1" "$crate"; refusals=$((refusals + 1)); fi
-        if grep -q "^rt: $crate NOT PROVED: its dep" "$1/said"; then sed -n "s/^rt: $crate NOT PROVED: \(.*\)/- \`$crate\` is not tried: \1./p" "$1/said"; fi
-        if is_reached "$crate" && grep -q "^rt: $crate proved (" "$1/said"; then echo "- \`$crate\` is proved."; fi
+        is_needed "$crate" || continue
+        line=$(sed -n '/^== summary$/,$p' "$1/said" | sed -n "s/^$crate: //p")
+        case $line in
+        ok) if is_reached "$crate"; then echo "- \`$crate\` is proved."; fi ;;
+        'not run, since '*) echo "- \`$crate\` is not tried: its dependency $(sed 's/^not run, since \(.*\) failed$/\1/' <<< "$line") is not proved." ;;
+        'failed (1)') refused "$1" "$crate"; refusals=$((refusals + 1)) ;;
+        *) echo "faults: of $crate nothing is known: $line" >&2; exit 1 ;;
+        esac
     done
 }
 
 # The lemmas that break, and those that fall with them.
 refused() { # FOLDER CRATE
-    local errors="$room/errors" first
-    sed -nE "s|^$1/([^:]*):([0-9]+):[0-9]+: error: \`([^\`]*)\`: (.*)|\1 \2 \3 \4|p" "$1/target/log/$2.out" > "$errors"
+    local log="$room/log" errors="$room/errors" first
+    awk -v name="== $2" '/^== / { on = $0 == name; next } on' "$1/said" > "$log"
+    sed -nE "s#^(\./)?((src|specs|proofs)/[^:]*):([0-9]+):[0-9]+: error: \`([^\`]*)\`: (.*)#crates/$2/\2 \4 \5 \6#p" "$log" > "$errors"
     first=$(grep -v 'was not admitted' "$errors" | head -n 1 || true)
     if [ -z "$first" ]; then
         echo "- \`$2\` is refused:"
-        grep -m 1 'error' "$1/target/log/$2.out" | sed "s|$1/||; s/^/  /"
+        grep -m 1 'error' "$log" | sed 's/^/  /'
         return
     fi
     local fallen clauses others
@@ -114,7 +130,7 @@ refused() { # FOLDER CRATE
     if [ -n "$others" ]; then echo "  So do: $others."; fi
     fallen=$(grep -c 'was not admitted' "$errors" || true)
     clauses=$({ grep 'was not admitted' "$errors" || true; } | while read -r file line lemma what; do
-        case $file in */Clauses.antt | */Answers.antt | */claim/*) if grep -q "pub $lemma " "$1/$file"; then echo "\`$lemma\`"; fi ;; esac
+        case $file in */proofs/Clauses.antt | */proofs/Answers.antt | */claim/*) if grep -q "pub $lemma " "$1/$file"; then echo "\`$lemma\`"; fi ;; esac
     done | paste -sd ' ' | sed 's/ /, /g')
     if [ "$fallen" != 0 ]; then echo "  $fallen lemmas that stand on what broke fall with it${clauses:+, these statements of demand 3 among them: $clauses}."; fi
 }
