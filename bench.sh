@@ -5,12 +5,14 @@
 set -euo pipefail
 top=$(cd "$(dirname "${BASH_SOURCE[0]}")" && pwd -P)
 [ $# -le 1 ] || { echo "usage: bench.sh [FILE]" >&2; exit 2; }
-command -v rt > /dev/null || { echo "bench.sh: the Rattle kit's command rt is missing" >&2; exit 1; }
-# rt leaves a program that it has proved and built in the crate's folder out. What it makes there, and the crates' folders themselves, are no sources.
 program=$top/crates/bench/out/bench
-if [ ! -x "$program" ] || [ "$top/crates.txt" -nt "$program" ] || [ -n "$(find "$top/crates" -mindepth 2 -regex ".*/crates/[^/]*/out" -prune -o -newer "$program" -print -quit)" ]; then
+# What rt makes lies in folders out/, which are no sources.
+if [ ! -x "$program" ] || [ -n "$(find "$top/crates" "$top/crates.txt" -name out -prune -o -type f -newer "$program" -print -quit)" ]; then
+    command -v rt > /dev/null || { echo "bench.sh: the Rattle kit's command rt is missing" >&2; exit 1; }
     echo "bench.sh: proving and building the bench, where a source is newer than it" >&2
+    # rt runs what it has built, here on no input; what has not changed it does not build again.
     said=$(cd "$top/crates/bench" && rt run < /dev/null 2>&1) || { printf '%s\n' "$said" >&2; exit 1; }
+    touch "$program"
 fi
 case ${1:-} in
 --command) printf '%s\n' "$program" ;;

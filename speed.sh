@@ -5,17 +5,19 @@ set -euo pipefail
 top=$(cd "$(dirname "${BASH_SOURCE[0]}")" && pwd -P)
 runs=${1:-5}
 [[ $# -le 1 && $runs =~ ^[1-9][0-9]*$ ]] || { echo "usage: speed.sh [RUNS]" >&2; exit 2; }
-command -v rt > /dev/null || { echo "speed.sh: the Rattle kit's command rt is missing" >&2; exit 1; }
 command -v rustc > /dev/null || { echo "speed.sh: rustc is missing, which builds the peer" >&2; exit 1; }
 room=$(mktemp -d)
 trap 'rm -rf "$room"' EXIT
-# rt leaves a program that it has proved and built in the crate's folder out. What it makes there, and the crates' folders themselves, are no sources.
 program=$top/crates/speed/out/speed
-if [ ! -x "$program" ] || [ "$top/crates.txt" -nt "$program" ] || [ -n "$(find "$top/crates" -mindepth 2 -regex ".*/crates/[^/]*/out" -prune -o -newer "$program" -print -quit)" ]; then
+# What rt makes lies in folders out/, which are no sources.
+if [ ! -x "$program" ] || [ -n "$(find "$top/crates" "$top/crates.txt" -name out -prune -o -type f -newer "$program" -print -quit)" ]; then
+    command -v rt > /dev/null || { echo "speed.sh: the Rattle kit's command rt is missing" >&2; exit 1; }
     echo "speed.sh: proving and building the speed program, where a source is newer than it" >&2
+    # rt runs what it has built, here on no input; what has not changed it does not build again.
     said=$(cd "$top/crates/speed" && rt run < /dev/null 2>&1) || { printf '%s\n' "$said" >&2; exit 1; }
+    touch "$program"
 fi
-# The peer at its compiler's highest level, and for the processor that the kit builds programs for.
+# Both for the same processors, x86-64 of the second level, and at their compiler's highest level of optimization.
 rustc -C opt-level=3 -C codegen-units=1 -C target-cpu=x86-64-v2 --target x86_64-unknown-linux-gnu --edition 2021 "$top/peer/src/main.rs" -o "$room/peer" ||
     { echo "speed.sh: rustc cannot build the peer for x86-64, for which programs of the kit are built" >&2; exit 1; }
 ours=("$program")
@@ -23,12 +25,10 @@ peer=("$room/peer" speed)
 
 # What can count instructions here: the processor, or else valgrind.
 counter=none
-if [ "$(uname -m)" = x86_64 ]; then
-    if perf stat -x, -e instructions:u true 2>&1 | grep -q '^[0-9]'; then
-        counter=perf
-    elif command -v valgrind > /dev/null; then
-        counter=valgrind
-    fi
+if perf stat -x, -e instructions:u true 2>&1 | grep -q '^[0-9]'; then
+    counter=perf
+elif command -v valgrind > /dev/null; then
+    counter=valgrind
 fi
 case $counter in
 perf) echo "Instructions are counted by the processor." ;;

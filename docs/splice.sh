@@ -1,7 +1,7 @@
 #!/usr/bin/env bash
 # Puts standard input between the marks NAME and /NAME of docs/OUTCOMES.md, in place of what stands there.
 #   docs/public-check | sed 's/^/    /' | docs/splice.sh public
-#   docs/edits.sh | docs/splice.sh edits          docs/helpers.sh | docs/splice.sh helpers
+#   rt must-fail | docs/edits.sh | docs/splice.sh edits          docs/helpers.sh | docs/splice.sh helpers
 set -euo pipefail
 page=$(dirname "$0")/OUTCOMES.md
 [ $# = 1 ] && grep -qx "<!-- $1 -->" "$page" && grep -qx "<!-- /$1 -->" "$page" || { echo "splice.sh: no marks of '${1:-}' in OUTCOMES.md" >&2; exit 2; }
