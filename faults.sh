@@ -114,24 +114,24 @@ prove() { # FOLDER
 
 # The lemmas that break, and those that fall with them.
 refused() { # FOLDER CRATE
-    local log="$room/log" errors="$room/errors" first
+    local log="$room/log" errors="$room/errors" apart="$room/apart" fallen clauses others file line lemma
     awk -v name="== $2" '/^== / { on = $0 == name; next } on' "$1/said" > "$log"
-    sed -nE "s#^(\./)?((src|specs|proofs)/[^:]*):([0-9]+):[0-9]+: error: \`([^\`]*)\`: (.*)#crates/$2/\2 \4 \5 \6#p" "$log" > "$errors"
-    first=$(grep -v 'was not admitted' "$errors" | head -n 1 || true)
-    if [ -z "$first" ]; then
+    sed -nE "s#^(\./)?((src|specs|proofs)/[^:]*):([0-9]+):[0-9]+: error: \`([^\`]*)\`: .*#crates/$2/\2 \4 \5#p" "$log" > "$errors"
+    if [ ! -s "$errors" ]; then
         echo "- \`$2\` is refused:"
         grep -m 1 'error' "$log" | sed 's/^/  /'
         return
     fi
-    local fallen clauses others
-    read -r file line lemma what <<< "$first"
+    read -r file line lemma < "$errors"
     echo "- \`$2\` is refused: \`$lemma\`, $file line $line, breaks."
-    others=$(grep -v 'was not admitted' "$errors" | awk 'NR == 1 { said[$3] } NR > 1 && !($3 in said) { said[$3]; printf "%s`%s`", sep, $3; sep = ", " }')
+    others=$(awk 'NR == 1 { said[$3] } NR > 1 && !($3 in said) { said[$3]; printf "%s`%s`", sep, $3; sep = ", " }' "$errors")
     if [ -n "$others" ]; then echo "  So do: $others."; fi
-    fallen=$(grep -c 'was not admitted' "$errors" || true)
-    clauses=$({ grep 'was not admitted' "$errors" || true; } | while read -r file line lemma what; do
-        case $file in */proofs/Clauses.antt | */proofs/Answers.antt | */claim/*) if grep -q "pub $lemma " "$1/$file"; then echo "\`$lemma\`"; fi ;; esac
-    done | paste -sd ' ' | sed 's/ /, /g')
+    # One line for each file and lemma that others of the file stand on: how many fall, the file, and their names.
+    sed -nE "s#^(\./)?((src|specs|proofs)/[^:]*):[0-9]+:[0-9]+: error: ([0-9]+) declarations? that depends? on .* not checked: (.*)#\4 crates/$2/\2 \5#p" "$log" | sed -E 's/ \(via [^)]*\)//g; s/,//g' > "$apart"
+    fallen=$(awk '{ n += $1 } END { print n + 0 }' "$apart")
+    clauses=$(while read -r line file others; do
+        case $file in */proofs/Clauses.antt | */proofs/Answers.antt | */claim/*) for lemma in $others; do if grep -q "pub $lemma " "$1/$file"; then echo "\`$lemma\`"; fi; done ;; esac
+    done < "$apart" | paste -sd ' ' | sed 's/ /, /g')
     if [ "$fallen" != 0 ]; then echo "  $fallen lemmas that stand on what broke fall with it${clauses:+, these statements of demand 3 among them: $clauses}."; fi
 }
 
