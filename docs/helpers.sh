@@ -1,14 +1,17 @@
 #!/usr/bin/env bash
 # One wrong answer for each public helper (docs/helpers.txt), tried on a copy of the repository: each must be refused for its own sake. It prints the table of docs/OUTCOMES.md.
-# It is no part of the gate: `rt dev` is the kit's quick check, not its verdict, but it proves no more than the verdict does.
+# It is no part of the gate: `rt check` is no verdict, but it proves no more than the verdict does.
 #   docs/helpers.sh [CRATE..]     the rounds of these crates only
 set -euo pipefail
 export LC_ALL=C.UTF-8
 cd "$(dirname "$0")/.."
 top=$PWD room=$(mktemp -d) survived=0
 trap 'rm -rf "$room"' EXIT
-cp -r crates.txt crates "$room/"
-for part in rlib stamp; do [ ! -d "target/$part" ] || { mkdir -p "$room/target" && cp -r "target/$part" "$room/target/"; }; done
+cp crates.txt "$room/"
+for crate in crates/*; do
+    mkdir -p "$room/$crate"
+    for part in src specs proofs; do [ ! -d "$crate/$part" ] || cp -r "$crate/$part" "$room/$crate/"; done
+done
 
 source_of() { # FUNCTION: its file below crates/
     case $1 in
@@ -25,6 +28,15 @@ change() { # FUNCTION OLD NEW
     printf '%s\n' "${text/"$old"/"$new"}" > "$file"
 }
 
+# The first goal of a function that the check could not prove by itself: its line stands in the function.
+in_source() { # FUNCTION LOG
+    local file from to
+    file=$(source_of "$1") file=${file#*/}
+    from=$(grep -nE "^(pub )?fn ${1##*::}\b" "$room/crates/${1%%::*}/$file" | cut -d: -f1)
+    to=$(awk -v from="$from" 'NR > from && /^}/ { print NR; exit }' "$room/crates/${1%%::*}/$file")
+    awk -v head="note: $file:" -v from="$from" -v to="$to" 'index($0, head) == 1 { split(substr($0, length(head) + 1), at, ":"); if (at[1] >= from && at[1] <= to) { print; exit } }' "$2"
+}
+
 # What the check says of a function that is refused for its own sake.
 said() { # FUNCTION LOG
     local line path=${1#*::}
@@ -32,10 +44,11 @@ said() { # FUNCTION LOG
     case $line in
     *': proved') echo 'NOT REFUSED' ;;
     *'it calls'*) echo 'NOT TRIED: a callee is refused' ;;
-    *'no proof: '*) sed -E 's/.*; (`search` does not close `[^`]*`).*/\1/; s/`//g' <<< "$line" ;;
-    *'not proved'*)
-        line=$(grep -m 1 -E "/proofs/${path//:://}/Proof\.antt:[0-9:]+ error: " "$2" | sed -E -e 's|^.*/proofs/|proofs/|' -e 's/: error: [^:]*: /: /' -e 's/Rattle·[a-z]+·(proofs\.proofs|specs\.specs)\.//g' -e 's/(no proof of [^ ]+) .*/\1 ../' -e 's/list the missing equation with its arguments.*/cc does not join the two sides/' -e 's/`//g' -e 's/\|/\\|/g')
+    *': not proved'* | *': no proof'*)
+        line=$(grep -m 1 -E "^(\./)?proofs/${path//:://}/(Answers|Invariants|Proof)\.antt:[0-9:]+ error: " "$2" || in_source "$1" "$2")
+        line=$(sed -E -e 's/^note: //' -e 's|^\./||' -e 's/: error: /: /' -e 's/Rattle\.[a-z]+\.(specs|proofs)\.//g' -e 's/(Prim|mathlib|lib)\.([A-Za-z]+\.)+//g' -e 's/`//g' -e 's/\|/\\|/g' <<< "$line")
         [ "${#line}" -le 130 ] || line="${line:0:130}.."
+        [ -n "$line" ] || line='NOT TRIED: the check does not say why it is refused'
         echo "$line" ;;
     *) echo 'NOT TRIED: the check says nothing of it' ;;
     esac
@@ -44,7 +57,7 @@ said() { # FUNCTION LOG
 play() { # the round in functions, olds and news
     local crate=${functions[0]%%::*} i answer
     for i in "${!functions[@]}"; do change "${functions[i]}" "${olds[i]}" "${news[i]}"; done
-    (cd "$room" && rt dev "$crate" > "$room/log" 2>&1) || true
+    (cd "$room/crates/$crate" && rt check > "$room/log" 2>&1) || true
     for i in "${!functions[@]}"; do
         answer=$(said "${functions[i]}" "$room/log")
         case $answer in NOT*) survived=1 ;; esac
