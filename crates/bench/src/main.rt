@@ -3,9 +3,9 @@
 
 ghost use Rattle.std.specs.Prelude.{◌≡◌, ◌≤◌, length};
 
-use libc::{STDIN_FILENO, STDOUT_FILENO};
 use session::line::Session;
 use session::{cut, line, text};
+use std::io::Read;
 
 // The longest block within the bench's limits, that of k = 8, has 6 + 512·17 + 8·512 + 8·((512 − 17) div 8) = 13,294 words.
 const BLOCK_WORDS: usize = 13312;
@@ -28,8 +28,9 @@ struct Reading {
     session: Session,
 }
 
-// One whole line: it is done, and what it says is written.
+// One whole line: it is done, and what it says is written. A write that fails is passed over: the lines behind it are done all the same.
 fn take_line(
+    rt: &impl Print,
     block: &mut [u32],
     list: &mut [u32],
     out: &mut [u8],
@@ -41,12 +42,13 @@ fn take_line(
     let said = t.said;
     let after = t.session;
     let n = text::put_said(out, said, list);
-    io::write_all(STDOUT_FILENO, &out[..n]);
+    let _ = rt.write_all(&out[..n]);
     after
 }
 
 // A part of a line is kept, as far as there is room; the line is taken where it ends behind that part.
 fn take_part(
+    rt: &impl Print,
     block: &mut [u32],
     list: &mut [u32],
     out: &mut [u8],
@@ -61,7 +63,7 @@ fn take_part(
     let kept = print::write::put_bytes(held, r.kept, part);
     let s = r.session;
     if ends {
-        let session = take_line(block, list, out, &held[..kept], s);
+        let session = take_line(rt, block, list, out, &held[..kept], s);
         Reading { kept: 0, session }
     } else {
         Reading { kept, session: s }
@@ -70,6 +72,7 @@ fn take_part(
 
 // A piece of the input: each line that ends in it is taken, and the start of the next is kept.
 fn take_piece(
+    rt: &impl Print,
     block: &mut [u32],
     list: &mut [u32],
     out: &mut [u8],
@@ -85,6 +88,7 @@ fn take_piece(
     while at < piece.len() {
         let end = cut::line_end(piece, at);
         reading = take_part(
+            rt,
             block,
             list,
             out,
@@ -100,6 +104,7 @@ fn take_piece(
 
 // The end of the input: a line that has begun ends there, and the run with it.
 fn take_rest(
+    rt: &impl Print,
     block: &mut [u32],
     list: &mut [u32],
     out: &mut [u8],
@@ -117,15 +122,24 @@ fn take_rest(
             session: line::finish(s),
         };
     }
-    let after = take_line(block, list, out, &held[..kept], s);
+    let after = take_line(rt, block, list, out, &held[..kept], s);
     Reading {
         kept: 0,
         session: line::finish(after),
     }
 }
 
+// How many bytes one read puts at the front of the piece; none where it fails, as at the end of the input.
+fn read_some(input: &mut impl Read, piece: &mut [u8]) -> usize
+    ensures { result ≤ length piece.new }
+{
+    input.read(piece).unwrap_or(0)
+}
+
 // One read of the input.
 fn read_piece(
+    rt: &impl Print,
+    input: &mut impl Read,
     block: &mut [u32],
     list: &mut [u32],
     out: &mut [u8],
@@ -136,11 +150,11 @@ fn read_piece(
     requires { r.kept ≤ length held.old }
     ensures { result.kept ≤ length held.new }
 {
-    let n = io::count(libc::read(STDIN_FILENO, piece), piece);
+    let n = read_some(input, piece);
     if n == 0 {
-        take_rest(block, list, out, held, r)
+        take_rest(rt, block, list, out, held, r)
     } else {
-        take_piece(block, list, out, held, &piece[..n], r)
+        take_piece(rt, block, list, out, held, &piece[..n], r)
     }
 }
 
@@ -150,23 +164,34 @@ fn is_over(r: Reading) -> bool {
 }
 
 // The run ends with the input, or with a first line that is refused; the loop's budget of turns is one that no run uses up.
-fn run(block: &mut [u32], list: &mut [u32], out: &mut [u8], held: &mut [u8], piece: &mut [u8]) {
+fn run(
+    rt: &impl Print,
+    input: &mut impl Read,
+    block: &mut [u32],
+    list: &mut [u32],
+    out: &mut [u8],
+    held: &mut [u8],
+    piece: &mut [u8],
+) {
     let mut r = Reading {
         kept: 0,
         session: line::begin(),
     };
     let mut turns = u64::MAX;
     while turns > 0 && !is_over(r) {
-        r = read_piece(block, list, out, held, piece, r);
+        r = read_piece(rt, input, block, list, out, held, piece, r);
         turns -= 1;
     }
 }
 
-fn main() {
+fn main(rt: HostRuntime) {
+    let mut input = rt.stdin();
     let mut block = [0u32; BLOCK_WORDS];
     let mut list = [0u32; LIST_WORDS];
     let mut out = [0u8; TEXT_BYTES];
     let mut held = [0u8; LINE_BYTES];
     let mut piece = [0u8; PIECE_BYTES];
-    run(&mut block, &mut list, &mut out, &mut held, &mut piece);
+    run(
+        &rt, &mut input, &mut block, &mut list, &mut out, &mut held, &mut piece,
+    );
 }

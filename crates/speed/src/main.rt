@@ -4,9 +4,9 @@
 
 mod work;
 
-ghost use Rattle.std.specs.Prelude.{◌≤◌};
+ghost use Rattle.std.specs.Prelude.{◌≤◌, length};
 
-use libc::{STDIN_FILENO, STDOUT_FILENO};
+use std::io::Read;
 use tables::words;
 use work::{Tally, Work};
 
@@ -76,32 +76,55 @@ fn work_of(text: &[u8]) -> Work {
     }
 }
 
-fn show(name: &[u8], n: u64) {
-    io::write_all(STDOUT_FILENO, name);
-    io::print_decimal(STDOUT_FILENO, n);
+// A write that fails is passed over, as is what is left of its line.
+fn show(rt: &impl Print, name: &str, n: u64) {
+    let _ = print!(rt; "{name}{n}");
 }
 
-fn report(block: &[u32], t: Tally) {
-    show(b"yes=", t.yes);
-    show(b" no=", t.no);
-    show(b" full=", t.full);
-    show(b" refused=", t.refused);
-    show(b" steps=", t.steps);
-    show(b" nodes=", words::word_at(block, 3) as u64);
-    show(b" records=", words::word_at(block, 5) as u64);
-    show(b" sum=", t.sum as u64);
-    io::write_all(STDOUT_FILENO, b"\n");
+fn report(rt: &impl Print, block: &[u32], t: Tally) {
+    show(rt, "yes=", t.yes);
+    show(rt, " no=", t.no);
+    show(rt, " full=", t.full);
+    show(rt, " refused=", t.refused);
+    show(rt, " steps=", t.steps);
+    show(rt, " nodes=", words::word_at(block, 3) as u64);
+    show(rt, " records=", words::word_at(block, 5) as u64);
+    show(rt, " sum=", t.sum as u64);
+    let _ = rt.write_all(b"\n");
 }
 
-fn run(block: &mut [u32], text: &mut [u8]) {
-    let n = io::read_full(STDIN_FILENO, text);
+// How many bytes one read puts at the front of the text; none where it fails, as at the end of the input.
+fn read_some(input: &mut impl Read, text: &mut [u8]) -> usize
+    ensures { result ≤ length text.new }
+{
+    input.read(text).unwrap_or(0)
+}
+
+// Reads until the text is full or the input ends, and says how many bytes it put at the front of the text.
+fn read_full(input: &mut impl Read, text: &mut [u8]) -> usize
+    ensures { result ≤ length text.new }
+{
+    let mut done: usize = 0;
+    while done < text.len() {
+        let n = read_some(input, &mut text[done..]);
+        if n == 0 {
+            return done;
+        }
+        done += n;
+    }
+    done
+}
+
+fn run(rt: &impl Print, input: &mut impl Read, block: &mut [u32], text: &mut [u8]) {
+    let n = read_full(input, text);
     let w = work_of(&text[..n]);
     let tally = work::rounds(block, w);
-    report(block, tally);
+    report(rt, block, tally);
 }
 
-fn main() {
+fn main(rt: HostRuntime) {
+    let mut input = rt.stdin();
     let mut block = [0u32; BLOCK_WORDS];
     let mut text = [0u8; TEXT_BYTES];
-    run(&mut block, &mut text);
+    run(&rt, &mut input, &mut block, &mut text);
 }
