@@ -1,5 +1,4 @@
--- The laws of the steps that are left, of an operation, of the work, and of a block that is lent again for a call.
-pub mod Again
+-- The laws of the steps that are left, of an operation, and of the work.
 pub mod Turns
 pub mod Operations
 pub mod Works

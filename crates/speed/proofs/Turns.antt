@@ -1,33 +1,10 @@
--- What the walk of `steps` needs: the row's type, and what a turn does to the steps that are left and to what they come to.
-use Rattle.std.proofs.Common.{◌≡◌, ℕ, zero, suc, ◌-◌, ◌<◌, ◌≤◌, List, length, sym, refl, ap, ◌∙◌, subst, arith, lit<}
-use denote.Array.{Array}
-use denote.RattleType.{RattleType}
-use denote.Slice.{Room}
+-- What a turn of `steps` does to the steps that are left, and to what they come to.
+use Rattle.std.proofs.Common.{◌≡◌, ℕ, zero, suc, ◌-◌, ◌<◌, ◌≤◌, List, sym, refl, ap, ◌∙◌, arith}
 use Rattle.process.specs.declared.Process.{Process}
 use Rattle.process.specs.declared.StepAnswer.{StepAnswer}
 use Rattle.process.specs.declared.StepAnswer.TheVariants as steps
-use Rattle.process.specs.contracts.Process as T
 use Rattle.index.specs.Calls.{StepOut, step_out, step_call}
 use Rattle.speed.specs.Steps.{StepsOut, left_after, steps_out, steps_then, steps_from}
-
--- a row of one record
-abbrev pub Row : RattleType
-Row = Array T.the_row 1
-
-pub room_row : (xs : List Process) → length xs ≡ 1 → Room T.the_row (length xs)
-room_row xs e = subst (Room T.the_row) (sym e) (lit< tt, lit< tt)
-
--- `left_after`, where the step goes on
-pub going : (n m : ℕ) (r : StepAnswer) → r ≡ steps.GoesOn → m ≡ n - 1 → m ≡ left_after n r
-going n m r e f = subst (λ (a : StepAnswer). m ≡ left_after n a) (sym e) f
-
-less : (n : ℕ) (r : StepAnswer) → 0 < n → left_after n r < n
-less n steps.GoesOn l = omega (arith, l)
-less n (steps.Ended a k) l = l
-less n (steps.Refused e) l = l
-
-pub fewer : (n m : ℕ) (r : StepAnswer) → 0 < n → m ≡ left_after n r → m < n
-fewer n m r l e = subst (λ (k : ℕ). k < n) (sym e) (less n r l)
 
 -- one step, where some are left
 one_more : (n : ℕ) (a : StepAnswer) (b : List ℕ) (row : List Process) (done : StepOut) → done ≡ step_call b row 1 → steps_from (suc n) a b row ≡ steps_then (steps_from n steps.GoesOn) done.answer done.block done.row

@@ -1,16 +1,10 @@
--- Laws of the work: what an operation of a part asks, and what a turn of each loop comes to.
+-- Laws of the work: what a change asks, and what a turn of each loop comes to.
 use Rattle.std.proofs.Common.{◌≡◌, ℕ, zero, suc, ◌+◌, ◌-◌, ◌*◌, ◌/◌, ◌%◌, ◌^◌, ◌<◌, ◌≤◌, Bool, true, false, not, eqb, ltb, List, replicate, sym, refl, ap, ◌∙◌, subst, arith, eq-eqb, ne_eqb}
 use borrow.Author.Tests.{not-true, not-false}
 use Rattle.tables.specs.Choice.{pick}
 use Rattle.tables.proofs.Lists.{left_over}
-use Rattle.fresh.specs.declared.Made.{Made}
-use Rattle.process.specs.Process.{idle}
-use Rattle.process.specs.declared.Process.{Process}
-use Rattle.make.specs.Make.{MakeOut, make_out, make_call}
-use Rattle.speed.specs.Operation.{operate_out, operate_of}
-use Rattle.speed.specs.Work.{is_over, tallied_of, period_of, asked_of, change_of, key_of, TurnOut, turn_out, counted_of, did_of, turn_of, DoneOut, done_out, so_far, done_from, nothing_yet, RoundOut, round_out, fresh_of, changed, after_finds, after_filling, round_of, rounds_from}
+use Rattle.speed.specs.Work.{period_of, change_of, TurnOut, turn_out, turn_of, DoneOut, done_out, so_far, done_from, nothing_yet, RoundOut, round_out, fresh_of, changed, after_finds, after_filling, round_of, rounds_from}
 use Rattle.speed.specs.declared.work.Work.{Work}
-use Rattle.speed.specs.declared.work.Ending.{Ending}
 use Rattle.speed.specs.declared.work.Tally.{Tally}
 use Rattle.speed.specs.declared.work.Asked.{Asked}
 use Rattle.speed.specs.declared.work.Counted.{Counted}
@@ -35,27 +29,6 @@ unfolding pick
 comes count i n e f = rw (e, f) refl
 
 pub ruleset changes = (goes, comes, eq-eqb, ne_eqb)
-
-pub asks_filling : (p : Part) (count i : ℕ) → p ≡ parts.Filling → ◌≡◌ {A = Asked} (record { operation = 2; number = i }) (asked_of p count i)
-asks_filling p count i e = rw e refl
-
-pub asks_finding : (p : Part) (count i m n : ℕ) → p ≡ parts.Finding → m ≡ period_of count → n ≡ i % m → ◌≡◌ {A = Asked} (record { operation = 1; number = n }) (asked_of p count i)
-asks_finding p count i m n e f g = rw (e, g, f) refl
-
-pub asks_changing : (p : Part) (count i : ℕ) (a : Asked) → p ≡ parts.Changing → a ≡ change_of count i → a ≡ asked_of p count i
-asks_changing p count i a e f = rw (e, f) refl
-
-pub ruleset askings = (asks_filling, asks_finding, asks_changing)
-
--- an operation of a part, from what it asks and what that comes to
-pub turn_as : (p : Part) (count i : ℕ) (a : Asked) (key : ℕ) (e : Ending) (t t' : Tally) (over : Bool) (b b' : List ℕ) → a ≡ asked_of p count i → key ≡ key_of a.number → operate_out e b' ≡ operate_of b a.operation key → t' ≡ tallied_of t e → over ≡ is_over e
-    → turn_out (record { tally = t'; over = over }) b' ≡ turn_of p count i t b
-turn_as p count i a key e t t' over b b' ea ek eo et ev =
-    ap (λ (x : Tally). turn_out (record { tally = x; over = over }) b') et
-    ∙ (ap (λ (v : Bool). turn_out (record { tally = tallied_of t e; over = v }) b') ev
-    ∙ (ap (counted_of t) eo
-    ∙ (ap (λ (k : ℕ). counted_of t (operate_of b a.operation k)) ek
-    ∙ ap (λ (x : Asked). did_of t x b) ea)))
 
 -- one operation of a part, where some are left and none was over
 one_more : (p : Part) (count n i : ℕ) (t : Tally) (b : List ℕ) → done_from p count (suc n) i false t b ≡ done_from p count n (i + 1) (turn_of p count i t b).counted.over (turn_of p count i t b).counted.tally (turn_of p count i t b).block
@@ -89,17 +62,6 @@ all_done {out} p count number i over t b l so = sym (none_left p count i over t 
 pub over_done : {out : DoneOut} (p : Part) (count number i : ℕ) (over : Bool) (t : Tally) (b : List ℕ) → not over ≡ false → done_from p count (number - i) i over t b ≡ out → done_out (so_far t i) b ≡ out
 over_done {out} p count number i over t b e so = sym (was_over p count (number - i) i t b) ∙ (sym (ap (λ (v : Bool). done_from p count (number - i) i v t b) (not-false over e)) ∙ so)
 
-nothing_off : (number : ℕ) → number - 0 ≡ number
-nothing_off number = omega arith
-
-pub begun : (p : Part) (count number : ℕ) (t : Tally) (b : List ℕ) → done_from p count (number - 0) 0 false t b ≡ done_from p count number 0 false t b
-begun p count number t b = ap (λ (n : ℕ). done_from p count n 0 false t b) (nothing_off number)
-
-pub ruleset doings = (a_turn, all_done, over_done, begun)
-
-pub fresh_as : (w : Work) (b b₁ : List ℕ) (q : Process) (zs : List Process) (made : Made) → make_out made b₁ zs ≡ make_call b (replicate 32 q) w.k 1 w.nodes w.records → q ≡ idle → b₁ ≡ fresh_of w b
-fresh_as w b b₁ q zs made em eq = ap (λ (m : MakeOut). m.block) em ∙ ap (λ (x : Process). (make_call b (replicate 32 x) w.k 1 w.nodes w.records).block) eq
-
 -- a round, from what its making and its three parts come to
 pub a_round : (w : Work) (t : Tally) (b b₁ b₂ b₃ b₄ : List ℕ) (f s c : Done) → done_out c b₄ ≡ done_from parts.Changing f.count w.changes 0 false s.tally b₃ → done_out s b₃ ≡ done_from parts.Finding f.count w.finds 0 false f.tally b₂
     → done_out f b₂ ≡ done_from parts.Filling 0 w.keys 0 false t b₁ → b₁ ≡ fresh_of w b → round_out c.tally b₄ ≡ round_of w t b
@@ -123,8 +85,3 @@ no_round w t b = refl
 
 pub all_rounds : (number i : ℕ) (w : Work) (t₀ t : Tally) (b₀ b : List ℕ) → number ≤ i → t₀ ≡ nothing_yet → rounds_from (number - i) w t b ≡ rounds_from number w t₀ b₀ → round_out t b ≡ rounds_from number w nothing_yet b₀
 all_rounds number i w t₀ t b₀ b l e so = sym (no_round w t b) ∙ (sym (ap (λ (n : ℕ). rounds_from n w t b) (no_more number i l)) ∙ (so ∙ ap (λ (x : Tally). rounds_from number w x b₀) e))
-
-pub first_round : (number : ℕ) (w : Work) (t : Tally) (b : List ℕ) → rounds_from (number - 0) w t b ≡ rounds_from number w t b
-first_round number w t b = ap (λ (n : ℕ). rounds_from n w t b) (nothing_off number)
-
-pub ruleset rounding = (next_round, all_rounds, first_round)

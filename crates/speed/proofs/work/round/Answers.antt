@@ -1,0 +1,6 @@
+-- A round is its making and its three parts.
+use Rattle.speed.proofs.Works.{a_round}
+use Rattle.speed.proofs.work.round.Goals as goal
+
+pub returns : goal.returns
+returns c = a_round _ _ _ _ _ _ _ _ _ _ c.perform-c.ensures c.perform-s.ensures c.perform-f.ensures c.fresh.ensures
