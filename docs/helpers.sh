@@ -45,7 +45,10 @@ said() { # FUNCTION LOG
     *': proved') echo 'NOT REFUSED' ;;
     *'it calls'*) echo 'NOT TRIED: a callee is refused' ;;
     *': not proved'* | *': no proof'*)
-        line=$(grep -m 1 -E "^(\./)?proofs/${path//:://}/(Answers|Invariants|Proof)\.antt:[0-9:]+ error: " "$2" || in_source "$1" "$2")
+        line=$(grep -E "^(\./)?proofs/${path//:://}/(Answers|Invariants|Proof)\.antt:[0-9:]+ error: " "$2" | sed 1q) || true
+        # (an answer to a goal that has another name now shows nothing)
+        case $line in *'that can be named'*) echo 'NOT TRIED: a goal has another name'; return ;; esac
+        [ -n "$line" ] || line=$(in_source "$1" "$2")
         line=$(sed -E -e 's/^note: //' -e 's|^\./||' -e 's/: error: /: /' -e 's/Rattle\.[a-z]+\.(specs|proofs)\.//g' -e 's/(Prim|mathlib|lib)\.([A-Za-z]+\.)+//g' -e 's/`//g' -e 's/\|/\\|/g' <<< "$line")
         [ "${#line}" -le 130 ] || line="${line:0:130}.."
         [ -n "$line" ] || line='NOT TRIED: the check does not say why it is refused'
