@@ -10,13 +10,13 @@ use mir.Val.{Fits}
 use mir.Syntax.{w8, w16}
 use lib.Dec.{leb, ltb}
 use lib.ListN.{length}
+use Rattle.std.specs.Prelude.{Ok, Err}
 use Rattle.tables.specs.Choice.{pick, both, within, decide}
 use Rattle.tables.specs.Numbers.{lowest_k, highest_k, most_processes, most_nodes, fresh_nodes, header_words, most_records, numbers_good}
 use Rattle.tables.specs.Layout.{block_words}
 use Rattle.tables.specs.Refusal.{refusal}
 use Rattle.tables.specs.Header.{header_of, header_good, block_reasons, header_refused, header_read}
 use Rattle.tables.specs.declared.header.Header.{Header}
-use Rattle.tables.specs.declared.header.HeaderRead.TheVariants.{Good, Refused}
 use Rattle.tables.specs.declared.numbers.Refusal.{Refusal}
 use Rattle.tables.specs.declared.numbers.Refusal.TheVariants.{TooShort, Damaged}
 use Rattle.tables.proofs.Picks.{both_1, both_2, within_low, within_high}
@@ -106,20 +106,20 @@ module _ (h : Header) (t : Bool) (e : t ≡ header_good h) (y : t ≡ true) wher
   pub recordsused_fits : Fits w16 h.recordsused
   recordsused_fits = record { fits = omega (arith, the_limits) }
 
-pub read_short : (b : List ℕ) → length b < 6 → Refused TooShort ≡ header_read b
+pub read_short : (b : List ℕ) → length b < 6 → Err TooShort ≡ header_read b
 unfolding pick
 read_short b p = cc (lt-ltb (length b) 6 p)
 
 module _ (b : List ℕ) (t : Bool) (long : 6 ≤ length b) (e : t ≡ header_good (header_of b)) where
-  pub read_bad : t ≡ false → Refused Damaged ≡ header_read b
+  pub read_bad : t ≡ false → Err Damaged ≡ header_read b
   unfolding pick
   read_bad f = cc (le-ltb (length b) 6 long)
 
-  pub read_cut : (w : ℕ) → t ≡ true → w ≡ block_words (header_of b) → length b < w → Refused TooShort ≡ header_read b
+  pub read_cut : (w : ℕ) → t ≡ true → w ≡ block_words (header_of b) → length b < w → Err TooShort ≡ header_read b
   unfolding pick
   read_cut w f g p = cc (le-ltb (length b) 6 long, lt-ltb (length b) w p)
 
-  pub read_good : (w : ℕ) → t ≡ true → w ≡ block_words (header_of b) → w ≤ length b → Good (header_of b) ≡ header_read b
+  pub read_good : (w : ℕ) → t ≡ true → w ≡ block_words (header_of b) → w ≤ length b → Ok (header_of b) ≡ header_read b
   unfolding pick
   read_good w f g p = cc (le-ltb (length b) 6 long, le-ltb (length b) w p)
 
@@ -130,7 +130,7 @@ pub depth_short : (n k : ℕ) → n < fresh_nodes k → 0 ≡ (n - fresh_nodes k
 depth_short n k p = let e : n - fresh_nodes k ≡ 0 = omega arith in rw e (sym (zero-div k))
 
 -- what a call does with a header that it has read: a refusal passes on, a good header is that of the block, and the call's own reasons follow
-good_tests : (t u v : Bool) (g h : Header) → pick t (header_refused 2) (pick u (header_refused 3) (pick v (header_refused 2) (Good g))) ≡ Good h →
+good_tests : (t u v : Bool) (g h : Header) → pick t (header_refused 2) (pick u (header_refused 3) (pick v (header_refused 2) (Ok g))) ≡ Ok h →
     (t ≡ false) × (u ≡ false) × (v ≡ false) × (g ≡ h)
 unfolding pick
 good_tests true u v g h e = let z : ◌≡◌ {A = ℕ} 0 1 = cc in absurd (omega arith)
@@ -138,19 +138,19 @@ good_tests false true v g h e = let z : ◌≡◌ {A = ℕ} 0 1 = cc in absurd (
 good_tests false false true g h e = let z : ◌≡◌ {A = ℕ} 0 1 = cc in absurd (omega arith)
 good_tests false false false g h e = (refl, refl, refl, cc)
 
-block_tests : (b : List ℕ) (h : Header) → header_read b ≡ Good h →
+block_tests : (b : List ℕ) (h : Header) → header_read b ≡ Ok h →
     (ltb (length b) header_words ≡ false) × (not (header_good (header_of b)) ≡ false) × (ltb (length b) (block_words (header_of b)) ≡ false) × (header_of b ≡ h)
 block_tests b h e =
     good_tests (ltb (length b) header_words) (not (header_good (header_of b))) (ltb (length b) (block_words (header_of b))) (header_of b) h e
 
-pub read_header : (b : List ℕ) (h : Header) → header_read b ≡ Good h → header_of b ≡ h
+pub read_header : (b : List ℕ) (h : Header) → header_read b ≡ Ok h → header_of b ≡ h
 read_header b h e = (block_tests b h e).3
 
-pub read_limits : (b : List ℕ) (h : Header) → header_read b ≡ Good h → header_good h ≡ true
+pub read_limits : (b : List ℕ) (h : Header) → header_read b ≡ Ok h → header_good h ≡ true
 read_limits b h e = ap header_good (sym (read_header b h e)) ∙ not-false (header_good (header_of b)) (block_tests b h e).1
 
 module _ {A : Type 0} (say : Refusal → A) (accepting : A) (b : List ℕ) where
-  refused_on : (t u v : Bool) (g : Header) (e : Refusal) → pick t (header_refused 2) (pick u (header_refused 3) (pick v (header_refused 2) (Good g))) ≡ Refused e →
+  refused_on : (t u v : Bool) (g : Header) (e : Refusal) → pick t (header_refused 2) (pick u (header_refused 3) (pick v (header_refused 2) (Ok g))) ≡ Err e →
       say e ≡ pick t (say (refusal 2)) (pick u (say (refusal 3)) (pick v (say (refusal 2)) accepting))
   unfolding pick
   refused_on true u v g e f = ap say (let z : e ≡ refusal 2 = cc in z)
@@ -158,9 +158,9 @@ module _ {A : Type 0} (say : Refusal → A) (accepting : A) (b : List ℕ) where
   refused_on false false true g e f = ap say (let z : e ≡ refusal 2 = cc in z)
   refused_on false false false g e f = let z : ◌≡◌ {A = ℕ} 0 1 = cc in absurd (omega arith)
 
-  pub read_refuses : (e : Refusal) → header_read b ≡ Refused e → say e ≡ decide (block_reasons b) (λ n. say (refusal n)) accepting
+  pub read_refuses : (e : Refusal) → header_read b ≡ Err e → say e ≡ decide (block_reasons b) (λ n. say (refusal n)) accepting
   read_refuses e f = refused_on _ _ _ _ e f
 
-  pub read_accepts : (h : Header) → header_read b ≡ Good h → accepting ≡ decide (block_reasons b) (λ n. say (refusal n)) accepting
+  pub read_accepts : (h : Header) → header_read b ≡ Ok h → accepting ≡ decide (block_reasons b) (λ n. say (refusal n)) accepting
   unfolding pick
   read_accepts h f = let z = block_tests b h f in rw (z.0, z.1, z.2) refl

@@ -6,12 +6,12 @@ use mathlib.Core.List.{List, [], ◌∷◌, ◌++◌, map}
 use mathlib.Core.Logic.{◌↔◌}
 use native.Mathlib.Omega.{arith}
 use lib.ListN.{get_or-map}
+use Rattle.std.specs.Prelude.{Ok, Err}
 use Rattle.tables.specs.Choice.{pick, both, within, listed, Reason, decide, Verdict, refused, accepted, verdict, told, NoneHolds, none, nor, First}
 use Rattle.tables.specs.Refusal.{number_of, refusals, refusal}
 use Rattle.tables.specs.declared.numbers.Refusal.{Refusal}
 use Rattle.tables.specs.declared.numbers.Refusal.TheVariants.{MakingNumber, TooShort, Damaged, NoSuchProcess, UnknownOperation, InfinityGiven, Busy, Idle, ListTooShort, LowAboveHigh, NotInForm}
 use Rattle.tables.specs.Header.{header_of, block_reasons, header_read}
-use Rattle.tables.specs.declared.header.HeaderRead.TheVariants.{Good, Refused}
 use Rattle.tables.proofs.Picks.{both_1, both_2, within_low, within_high}
 use Rattle.tables.proofs.Lists.{get_or-listed}
 
@@ -148,6 +148,6 @@ module _ {O A : Type 0} (answer : O → A) (say : Refusal → A) (leave : Refusa
   call_exactly = (call_first, λ f. ap answer (first_answers leave accepting rs e f) ∙ says e)
 
 -- this crate's call that refuses
-pub read_refused : (b : List ℕ) (e : Refusal) → header_read b ≡ Refused e → First (number_of e) (block_reasons b)
+pub read_refused : (b : List ℕ) (e : Refusal) → header_read b ≡ Err e → First (number_of e) (block_reasons b)
 unfolding both
-read_refused b e = answers_first Refused (Good (header_of b)) (block_reasons b) e (λ d p. cc) (λ p. let z : ◌≡◌ {A = ℕ} 0 1 = cc in omega arith) refl
+read_refused b e = answers_first Err (Ok (header_of b)) (block_reasons b) e (λ d p. cc) (λ p. let z : ◌≡◌ {A = ℕ} 0 1 = cc in omega arith) refl

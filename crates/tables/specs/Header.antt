@@ -1,12 +1,11 @@
 -- Document 01, "Tables" and "What a call returns": the six words of the header, and the refusals of every call but making that come from the block.
-use Rattle.std.specs.Prelude.{ℕ, Bool, not, List, [], ◌∷◌, leb, ltb, length, get_or}
+use Rattle.std.specs.Prelude.{ℕ, Bool, not, List, [], ◌∷◌, leb, ltb, length, get_or, Result, Ok, Err}
 use Rattle.tables.specs.Choice.{both, within, Reason, reason, decide}
 use Rattle.tables.specs.Numbers.{fresh_nodes, header_words, numbers_good}
 use Rattle.tables.specs.Refusal.{refusal}
 use Rattle.tables.specs.Layout.{block_words}
 use Rattle.tables.specs.declared.header.Header.{Header}
-use Rattle.tables.specs.declared.header.HeaderRead.{HeaderRead}
-use Rattle.tables.specs.declared.header.HeaderRead.TheVariants.{Good, Refused}
+use Rattle.tables.specs.declared.numbers.Refusal.{Refusal}
 
 -- "Header, 6 words: k, processes, node limit, nodes used, record limit, records used"
 abbrev pub header_from : ℕ → ℕ → ℕ → ℕ → ℕ → ℕ → Header
@@ -36,8 +35,8 @@ block_reasons b =
     ∷ reason 2 (ltb (length b) (block_words (header_of b)))
     ∷ []
 
-abbrev pub header_refused : ℕ → HeaderRead
-header_refused n = Refused (refusal n)
+abbrev pub header_refused : ℕ → Result Header Refusal
+header_refused n = Err (refusal n)
 
-abbrev pub header_read : List ℕ → HeaderRead
-header_read b = decide (block_reasons b) header_refused (Good (header_of b))
+abbrev pub header_read : List ℕ → Result Header Refusal
+header_read b = decide (block_reasons b) header_refused (Ok (header_of b))

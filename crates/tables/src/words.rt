@@ -4,8 +4,7 @@ ghost use Rattle.std.specs.Prelude.{◌≡◌, ◌-◌, get_or, set};
 pub fn word_at(block: &[u32], at: u64) -> u32
     ensures { result ≡ get_or block.now at 0 }
 {
-    let i = at as usize;
-    if i < block.len() { block[i] } else { 0 }
+    block.get(at as usize).copied().unwrap_or(0)
 }
 
 pub fn put_at(block: &mut [u32], at: u64, word: u32)
@@ -15,11 +14,4 @@ pub fn put_at(block: &mut [u32], at: u64, word: u32)
     if i < block.len() {
         block[i] = word;
     }
-}
-
-// One less, and 0 for 0, so that node 0 needs no case of its own.
-pub fn prev(n: u32) -> u32
-    ensures { result ≡ n - 1 }
-{
-    if n == 0 { 0 } else { n - 1 }
 }
