@@ -64,7 +64,7 @@ fn index_good(h: Header, index: u32) -> bool
 fn depth_good(h: Header, depth: u32) -> bool
     ensures { result ≡ leb depth (depth_of h) }
 {
-    choice::at_most(depth as u64, header::depth(h) as u64)
+    choice::at_most(depth as u64, h.depth() as u64)
 }
 
 fn numbers_good(h: Header, q: Process) -> bool

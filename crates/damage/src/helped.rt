@@ -10,9 +10,9 @@ use tables::{choice, header, numbers};
 fn owner_good(block: &[u32], h: Header, number: u32) -> bool
     ensures { result ≡ owner_good block.now h number }
 {
-    let operation = header::record_word(block, h, number, 6);
-    let key = header::record_word(block, h, number, 7);
-    let owner = header::record_word(block, h, number, 5);
+    let operation = h.record_word(block, number, 6);
+    let key = h.record_word(block, number, 7);
+    let owner = h.record_word(block, number, 5);
     let a = choice::within(2, operation as u64, 3);
     let b = choice::below(key as u64, numbers::INFINITY as u64);
     let c = choice::within(1, owner as u64, h.processes as u64);
@@ -22,9 +22,9 @@ fn owner_good(block: &[u32], h: Header, number: u32) -> bool
 fn third_good(block: &[u32], h: Header, kind: u32, number: u32) -> bool
     ensures { result ≡ third_good block.now h kind number }
 {
-    let third = header::record_word(block, h, number, 3);
+    let third = h.record_word(block, number, 3);
     if kind == pending::REPLACE_KIND {
-        let p = header::record_word(block, h, number, 2);
+        let p = h.record_word(block, number, 2);
         node::is_node(node::below_of(block, h, p, third))
     } else {
         node::is_internal(node::kin_of(block, h, third))
@@ -34,8 +34,8 @@ fn third_good(block: &[u32], h: Header, kind: u32, number: u32) -> bool
 fn places_good(block: &[u32], h: Header, kind: u32, number: u32) -> bool
     ensures { result ≡ places_good block.now h kind number }
 {
-    let p = header::record_word(block, h, number, 2);
-    let l = header::record_word(block, h, number, 1);
+    let p = h.record_word(block, number, 2);
+    let l = h.record_word(block, number, 1);
     let a = node::is_internal(node::kin_of(block, h, p));
     let b = node::is_leaf(node::kin_of(block, h, l));
     let c = third_good(block, h, kind, number);
@@ -45,7 +45,7 @@ fn places_good(block: &[u32], h: Header, kind: u32, number: u32) -> bool
 fn expected_good(block: &[u32], h: Header, number: u32) -> bool
     ensures { result ≡ expected_good block.now h number }
 {
-    let word = header::record_word(block, h, number, 4);
+    let word = h.record_word(block, number, 4);
     let seen = pending::pending_of(word);
     let a = process::is_clean(seen);
     let b = pending::pending_good(block, h, seen);

@@ -148,7 +148,7 @@ fn put_field(block: &mut [u32], h: Header, field: u32, word: u32)
     ensures { block.new ≡ set block.old (record_at h (new_record h) field) word }
 {
     let number = (h.recordsused as u32) + 1;
-    words::put_at(block, header::record_at(h, number, field), word);
+    words::put_at(block, h.record_at(number, field), word);
 }
 
 fn put_fields(block: &mut [u32], h: Header, fields: [u32; 8])
@@ -199,7 +199,7 @@ fn commit(
     let number = (h.recordsused as u32) + 1;
     words::put_at(block, 3, (h.nodesused as u32) + needed);
     words::put_at(block, 5, number);
-    words::put_at(block, header::pending_at(h, flagged), 4 * number + kind);
+    words::put_at(block, h.pending_at(flagged), 4 * number + kind);
 }
 
 // A draw for a replace on p, where l is a leaf of so many keys. Says whether there was room.

@@ -39,7 +39,7 @@ fn store_keys(block: &[u32], h: Header, node: u32, count: u8, list: &mut [u32], 
     let n = count as u32;
     let mut i: u32 = 0;
     while i < n {
-        let key = header::key_word(block, h, node, i + 1);
+        let key = h.key_word(block, node, i + 1);
         words::put_at(list, (at + i) as u64, key);
         i += 1;
     }

@@ -40,7 +40,7 @@ fn look(
 ) -> Stepped
     ensures { out result block.now ≡ row_done block.now q (look_row block.now h q parent target found missed) }
 {
-    let seen = header::child_word(block, h, parent, q.index);
+    let seen = h.child_word(block, parent, q.index);
     let Child::Node(_) = node::below_of(block, h, parent, seen) else {
         return help::damaged(q);
     };
@@ -68,10 +68,10 @@ fn hang(
 ) -> Stepped
     ensures { out result block.new ≡ row_done block.old q (hang_row block.old h q parent from to next) }
 {
-    let seen = header::child_word(block, h, parent, q.index);
+    let seen = h.child_word(block, parent, q.index);
     let sound = node::is_node(node::below_of(block, h, parent, seen));
     if choice::and(sound, choice::below(parent as u64, to as u64)) {
-        swap(block, header::child_at(h, parent, q.index), seen, from, to);
+        swap(block, h.child_at(parent, q.index), seen, from, to);
         process::goes_on(process::with_point(q, next))
     } else {
         help::damaged(q)
@@ -97,7 +97,7 @@ fn ended(block: &[u32], h: Header, n: u32, q: Process) -> Stepped
 fn unflag(block: &mut [u32], h: Header, n: u32, q: Process, node: u32, kind: u32) -> Stepped
     ensures { out result block.new ≡ row_done block.old q (unflag_row block.old h n q node kind) }
 {
-    let word = header::pending_word(block, h, node);
+    let word = h.pending_word(block, node);
     if flag_sound(block, h, n, q, word) {
         let end = ended(block, h, n, q);
         help::clear_flag(block, h, node, word, q.helped, kind);

@@ -143,7 +143,7 @@ pub fn point_4(block: &mut [u32], h: Header, n: u32, q: Process) -> Stepped
     let Child::Node(kin) = child else {
         return help::damaged(q);
     };
-    let word = header::pending_word(block, h, q.p);
+    let word = h.pending_word(block, q.p);
     flag_leaf(block, h, n, q, kin, word)
 }
 
@@ -155,7 +155,7 @@ pub fn point_5(block: &mut [u32], h: Header, n: u32, q: Process) -> Stepped
     if 4294967296 <= pending::word_of(pseen) {
         return help::damaged(q);
     }
-    let word = header::pending_word(block, h, q.gp);
+    let word = h.pending_word(block, q.gp);
     if help::seen_good(block, h, word) {
         flag_gp(block, h, n, q, word)
     } else {

@@ -78,7 +78,7 @@ pub fn make_block(block: &mut [u32], k: u32, processes: u32, nodes: u32, records
             records: records as u16,
             recordsused: 0,
         };
-        let n = header::block_words(h);
+        let n = h.block_words();
         if (block.len() as u64) < n {
             return Made::Refused(Refusal::TooShort);
         }

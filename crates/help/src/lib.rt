@@ -37,7 +37,7 @@ pub fn seen_good(block: &[u32], h: Header, word: u32) -> bool
 pub fn top_of(block: &[u32], h: Header, n: u32, q: Process) -> u32
     ensures { result ≡ top_of block.now h n q }
 {
-    header::stack_word(block, h, n, words::prev(q.depth))
+    h.stack_word(block, n, q.depth.saturating_sub(1))
 }
 
 // Help ends: the top record's point 10, or yes at 8 and 14 if the own record is set, or a restart.
@@ -102,19 +102,19 @@ pub fn non_empty(kin: Kin) -> bool
 pub fn helped_l(block: &[u32], h: Header, q: Process) -> u32
     ensures { result ≡ helped_l block.now h q }
 {
-    header::record_word(block, h, q.helped, 1)
+    h.record_word(block, q.helped, 1)
 }
 
 pub fn helped_p(block: &[u32], h: Header, q: Process) -> u32
     ensures { result ≡ helped_p block.now h q }
 {
-    header::record_word(block, h, q.helped, 2)
+    h.record_word(block, q.helped, 2)
 }
 
 pub fn helped_third(block: &[u32], h: Header, q: Process) -> u32
     ensures { result ≡ helped_third block.now h q }
 {
-    header::record_word(block, h, q.helped, 3)
+    h.record_word(block, q.helped, 3)
 }
 
 // The swap of a node's pending from a flag of the record helped to clean with its number: a flag without its kind is that.
@@ -122,6 +122,6 @@ pub fn clear_flag(block: &mut [u32], h: Header, node: u32, word: u32, helped: u3
     ensures { block.new ≡ pick (eqb word (4 * helped + kind)) (set block.old (node_at h node (pending_place h.k)) (4 * helped)) block.old }
 {
     if (word as u64) == 4 * (helped as u64) + (kind as u64) {
-        words::put_at(block, header::pending_at(h, node), word - kind);
+        words::put_at(block, h.pending_at(node), word - kind);
     }
 }

@@ -37,7 +37,7 @@ pub fn put(row: &mut [Process], at: usize, q: Process)
 fn place_of(process: u32) -> usize
     ensures { result ≡ process - 1 }
 {
-    words::prev(process) as usize
+    process.saturating_sub(1) as usize
 }
 
 // "Each accepted step does the one row of its point"; the record goes back to its place whatever the answer.

@@ -40,7 +40,7 @@ fn show_made(rt: &impl Print, out: &mut [u8], answer: Made) {
         }
         Made::Refused(e) => {
             write_out(rt, b": ");
-            let n = write::write_refused(out, 0, numbers::number_of(e));
+            let n = write::write_refused(out, 0, e.number());
             show(rt, out, n);
         }
     }

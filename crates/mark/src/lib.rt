@@ -24,8 +24,8 @@ fn push(block: &mut [u32], h: Header, n: u32, q: Process, word: u32) -> Stepped
     ensures { out result block.new ≡ pushed block.old h n q word }
 {
     let depth = q.depth;
-    if depth < (header::depth(h) as u32) {
-        words::put_at(block, header::stack_at(h, n, depth), q.helped);
+    if depth < (h.depth() as u32) {
+        words::put_at(block, h.stack_at(n, depth), q.helped);
         let deeper = process::with_depth(q, depth + 1);
         help::helping(q.helped, deeper, pending::pending_of(word))
     } else {
@@ -54,7 +54,7 @@ fn mark_or_push(
 {
     let mark = 4 * q.helped + 3;
     if word == expected {
-        words::put_at(block, header::pending_at(h, p), mark);
+        words::put_at(block, h.pending_at(p), mark);
         to_eleven(q)
     } else if word == mark {
         to_eleven(q)
@@ -71,8 +71,8 @@ pub fn point_9(block: &mut [u32], h: Header, n: u32, q: Process) -> Stepped
         return help::damaged(q);
     }
     let p = help::helped_p(block, h, q);
-    let expected = header::record_word(block, h, q.helped, 4);
-    let word = header::pending_word(block, h, p);
+    let expected = h.record_word(block, q.helped, 4);
+    let word = h.pending_word(block, p);
     if help::seen_good(block, h, word) {
         mark_or_push(block, h, n, q, p, expected, word)
     } else {
@@ -84,7 +84,7 @@ pub fn point_9(block: &mut [u32], h: Header, n: u32, q: Process) -> Stepped
 fn under_top(block: &[u32], h: Header, n: u32, q: Process) -> u32
     ensures { result ≡ under_top block.now h n q }
 {
-    header::stack_word(block, h, n, words::prev(words::prev(q.depth)))
+    h.stack_word(block, n, q.depth.saturating_sub(2))
 }
 
 // The top that is popped is a prune, and so is the record under it, if any.
@@ -93,7 +93,7 @@ fn pop_good(block: &[u32], h: Header, n: u32, q: Process, under: u32) -> bool
 {
     let top = help::top_of(block, h, n, q);
     let prune = pending::record_of_kind(block, h, top, pending::PRUNE_KIND);
-    choice::and(prune, help::top_good(block, h, words::prev(q.depth), under))
+    choice::and(prune, help::top_good(block, h, q.depth.saturating_sub(1), under))
 }
 
 fn pop_sound(block: &[u32], h: Header, n: u32, q: Process, word: u32, under: u32) -> bool
@@ -109,14 +109,14 @@ fn pop_sound(block: &[u32], h: Header, n: u32, q: Process, word: u32, under: u32
 fn pop(block: &mut [u32], h: Header, n: u32, depth: u32)
     ensures { block.new ≡ set block.old (stack_at h n (depth - 1)) 0 }
 {
-    words::put_at(block, header::stack_at(h, n, words::prev(depth)), 0);
+    words::put_at(block, h.stack_at(n, depth.saturating_sub(1)), 0);
 }
 
 // 10 done: on to the record under the top, or a restart.
 fn popped(q: Process, under: u32) -> Stepped
     ensures { result ≡ help_ended false under (with_depth q (q.depth - 1)) }
 {
-    help::help_ended(false, under, process::with_depth(q, words::prev(q.depth)))
+    help::help_ended(false, under, process::with_depth(q, q.depth.saturating_sub(1)))
 }
 
 // 10. Swap gp's pending from this prune to clean with its number; pop.
@@ -124,7 +124,7 @@ pub fn point_10(block: &mut [u32], h: Header, n: u32, q: Process) -> Stepped
     ensures { out result block.new ≡ row_done block.old q (row10 block.old h n q) }
 {
     let gp = help::helped_third(block, h, q);
-    let word = header::pending_word(block, h, gp);
+    let word = h.pending_word(block, gp);
     let under = under_top(block, h, n, q);
     if pop_sound(block, h, n, q, word, under) {
         help::clear_flag(block, h, gp, word, q.helped, pending::PRUNE_KIND);
@@ -195,7 +195,7 @@ pub fn point_11(block: &[u32], h: Header, q: Process) -> Stepped
     ensures { out result block.now ≡ row_done block.now q (row11 block.now h q) }
 {
     let p = help::helped_p(block, h, q);
-    let seen = header::child_word(block, h, p, q.index);
+    let seen = h.child_word(block, p, q.index);
     let Child::Node(kin) = node::below_of(block, h, p, seen) else {
         return help::damaged(q);
     };

@@ -29,7 +29,7 @@ fn leaf_within(block: &[u32], h: Header, node: u32, count: u8, low: u32, high: u
     let mut found = false;
     let mut i: u32 = 0;
     while i < n {
-        let key = header::key_word(block, h, node, i + 1);
+        let key = h.key_word(block, node, i + 1);
         let inside = choice::within(low as u64, key as u64, high as u64);
         found = choice::or(found, inside);
         i += 1;

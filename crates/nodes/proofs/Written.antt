@@ -8,6 +8,7 @@ use native.Mathlib.Nat.{add-zero, mod-lt, div-add-mod, mul-add-div, mul-add-mod_
 use lib.Dec.{leb, eqb}
 use borrow.Author.Tests.{lt-ltb, le-ltb, ne_eqb}
 use lib.ListN.{get_or}
+use Rattle.std.specs.Prelude.{Option, Some, None}
 use Rattle.tables.specs.Choice.{pick, both}
 use Rattle.tables.specs.Layout.{kind_field, tag_word, child_word, record_word}
 use Rattle.nodes.specs.Pending.{word_of, pending_of, pending_of_kind, pending_good, record_in_use, record_of_kind}
@@ -16,8 +17,7 @@ use Rattle.tables.specs.declared.header.Header.{Header}
 use Rattle.nodes.specs.declared.pending.Pending.{Pending}
 use Rattle.nodes.specs.declared.pending.Pending.TheVariants.{Clean, Replace, Prune, Mark}
 use Rattle.nodes.specs.declared.node.Kin.TheVariants.{Leaf, Internal}
-use Rattle.nodes.specs.declared.node.Child.{Child}
-use Rattle.nodes.specs.declared.node.Child.TheVariants.{Node, Damaged}
+use Rattle.nodes.specs.declared.node.Kin.{Kin}
 
 pub pend_clean : (w : ℕ) → w % 4 ≡ 0 → Clean (w / 4) ≡ pending_of w
 pend_clean w e = cc
@@ -66,24 +66,24 @@ module _ (b : List ℕ) (h : Header) (v : Pending) (r : ℕ) (t : Bool) where
 pub ruleset pend = (pend_clean, pend_replace, pend_prune, pend_mark, word_clean, word_replace, word_prune, word_mark, good_clean, good_replace, good_prune, good_mark)
 
 module _ (b : List ℕ) (h : Header) (node tag : ℕ) (t : Bool) (e : tag ≡ tag_word b h node) (f : t ≡ good_tag h node tag) where
-  pub kin_leaf : t ≡ true → tag < h.k → Node (Leaf node tag) ≡ kin_of b h node
+  pub kin_leaf : t ≡ true → tag < h.k → Some (Leaf node tag) ≡ kin_of b h node
   unfolding pick
   kin_leaf g p = cc (lt-ltb tag h.k p)
 
-  pub kin_internal : t ≡ true → h.k ≤ tag → Node (Internal node) ≡ kin_of b h node
+  pub kin_internal : t ≡ true → h.k ≤ tag → Some (Internal node) ≡ kin_of b h node
   unfolding pick
   kin_internal g p = cc (le-ltb tag h.k p)
 
-  pub kin_damaged : t ≡ false → Damaged ≡ kin_of b h node
+  pub kin_damaged : t ≡ false → None ≡ kin_of b h node
   unfolding pick
   kin_damaged g = cc
 
 module _ (b : List ℕ) (h : Header) (parent node : ℕ) where
-  pub below_kin : (c : Child) → parent < node → c ≡ kin_of b h node → c ≡ below_of b h parent node
+  pub below_kin : (c : Option Kin) → parent < node → c ≡ kin_of b h node → c ≡ below_of b h parent node
   unfolding pick
   below_kin c p e = cc (lt-ltb parent node p)
 
-  pub below_not : node ≤ parent → Damaged ≡ below_of b h parent node
+  pub below_not : node ≤ parent → None ≡ below_of b h parent node
   unfolding pick
   below_not p = cc (le-ltb parent node p)
 
@@ -133,7 +133,7 @@ word_pending w = of_kind (w % 4) (w / 4) (mod-lt w (omega arith)) ∙ div-add-mo
 
 -- a child, and a record of a kind, by the words read
 module _ (b : List ℕ) (h : Header) where
-  pub child_is : (parent i node : ℕ) (c : Child) → node ≡ child_word b h parent i → c ≡ below_of b h parent node → c ≡ child_of b h parent i
+  pub child_is : (parent i node : ℕ) (c : Option Kin) → node ≡ child_word b h parent i → c ≡ below_of b h parent node → c ≡ child_of b h parent i
   child_is parent i node c e f = f ∙ ap (below_of b h parent) e
 
   pub kind_is : (number kind word : ℕ) (s t u : Bool) → s ≡ record_in_use h number → word ≡ record_word b h number kind_field → t ≡ eqb word kind → u ≡ both s t →

@@ -1,5 +1,5 @@
 -- "A child that is read is a leaf or an internal node; anything else is damaged", and the words of a node that is written.
-use Rattle.std.specs.Prelude.{ℕ, ◌+◌, ◌*◌, ◌-◌, Bool, true, false, List, ltb, leb, eqb, get_or}
+use Rattle.std.specs.Prelude.{ℕ, ◌+◌, ◌*◌, ◌-◌, Bool, true, false, List, ltb, leb, eqb, get_or, Option, Some, None}
 use Rattle.std.proofs.lemmas.List.Edits.{sets}
 use Rattle.tables.specs.Choice.{pick, both, within, listed}
 use Rattle.tables.specs.Numbers.{node_words}
@@ -7,8 +7,6 @@ use Rattle.tables.specs.Layout.{node_at, tag_word, child_word, tag_place}
 use Rattle.tables.specs.declared.header.Header.{Header}
 use Rattle.nodes.specs.declared.node.Kin.{Kin}
 use Rattle.nodes.specs.declared.node.Kin.TheVariants.{Leaf, Internal}
-use Rattle.nodes.specs.declared.node.Child.{Child}
-use Rattle.nodes.specs.declared.node.Child.TheVariants.{Node, Damaged}
 
 -- "Tag 0 to k−1 is a leaf with that many keys; tag k is internal"
 abbrev pub kin_of_tag : Header → ℕ → ℕ → Kin
@@ -21,31 +19,31 @@ good_tag h node tag = both (within 1 node h.nodesused) (leb tag h.k)
 abbrev pub node_good : List ℕ → Header → ℕ → Bool
 node_good b h node = good_tag h node (tag_word b h node)
 
-abbrev pub kin_of : List ℕ → Header → ℕ → Child
-kin_of b h node = pick (node_good b h node) (Node (kin_of_tag h node (tag_word b h node))) Damaged
+abbrev pub kin_of : List ℕ → Header → ℕ → Option Kin
+kin_of b h node = pick (node_good b h node) (Some (kin_of_tag h node (tag_word b h node))) None
 
 -- a node that hangs, or would hang, below a parent: not "a child not above its parent"
-abbrev pub below_of : List ℕ → Header → ℕ → ℕ → Child
-below_of b h parent node = pick (ltb parent node) (kin_of b h node) Damaged
+abbrev pub below_of : List ℕ → Header → ℕ → ℕ → Option Kin
+below_of b h parent node = pick (ltb parent node) (kin_of b h node) None
 
 -- what child i of a node is
-abbrev pub child_of : List ℕ → Header → ℕ → ℕ → Child
+abbrev pub child_of : List ℕ → Header → ℕ → ℕ → Option Kin
 child_of b h parent i = below_of b h parent (child_word b h parent i)
 
 -- a good node; a good internal node; a good leaf
-abbrev pub is_node : Child → Bool
-is_node (Node kin) = true
-is_node Damaged = false
+abbrev pub is_node : Option Kin → Bool
+is_node (Some kin) = true
+is_node None = false
 
-abbrev pub is_internal : Child → Bool
-is_internal (Node (Internal n)) = true
-is_internal (Node (Leaf n c)) = false
-is_internal Damaged = false
+abbrev pub is_internal : Option Kin → Bool
+is_internal (Some (Internal n)) = true
+is_internal (Some (Leaf n c)) = false
+is_internal None = false
 
-abbrev pub is_leaf : Child → Bool
-is_leaf (Node (Internal n)) = false
-is_leaf (Node (Leaf n c)) = true
-is_leaf Damaged = false
+abbrev pub is_leaf : Option Kin → Bool
+is_leaf (Some (Internal n)) = false
+is_leaf (Some (Leaf n c)) = true
+is_leaf None = false
 
 -- child o − k of a node whose children, if it is internal, are first, first + 1, ..
 abbrev pub image_child : ℕ → ℕ → ℕ → ℕ → ℕ

@@ -14,7 +14,7 @@ fn key_or(block: &[u32], h: Header, node: u32, count: u8, i: u32, past: u32) -> 
     ensures { result ≡ get_or (keys_of block.now h node count) i past }
 {
     if i < (count as u32) {
-        header::key_word(block, h, node, i + 1)
+        h.key_word(block, node, i + 1)
     } else {
         past
     }
@@ -27,7 +27,7 @@ pub fn rises(block: &[u32], h: Header, node: u32, count: u8) -> bool
     let n = count as u32;
     let mut i: u32 = 0;
     while i < n {
-        let key = header::key_word(block, h, node, i + 1);
+        let key = h.key_word(block, node, i + 1);
         let next = key_or(block, h, node, count, i + 1, numbers::INFINITY);
         if next <= key {
             return false;
@@ -44,7 +44,7 @@ pub fn greater_at(block: &[u32], h: Header, node: u32, count: u8, key: u32) -> u
     let n = count as u32;
     let mut i: u32 = 0;
     while i < n {
-        if key < header::key_word(block, h, node, i + 1) {
+        if key < h.key_word(block, node, i + 1) {
             return i;
         }
         i += 1;
@@ -59,7 +59,7 @@ fn equal_at(block: &[u32], h: Header, node: u32, count: u8, key: u32) -> u32
     let n = count as u32;
     let mut i: u32 = 0;
     while i < n {
-        if key == header::key_word(block, h, node, i + 1) {
+        if key == h.key_word(block, node, i + 1) {
             return i;
         }
         i += 1;

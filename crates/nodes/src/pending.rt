@@ -1,15 +1,14 @@
 // "clean, replace, prune or mark, together with a record number": the pending of a node, and its word both ways.
 ghost use Rattle.std.specs.Prelude.{◌≡◌};
-ghost use Rattle.nodes.specs.Pending.{word_of, pending_of, record_in_use, record_of_kind, pending_good};
+ghost use Rattle.nodes.specs.Pending.{record_in_use, record_of_kind, pending_good};
 
 use tables::header::Header;
-use tables::{choice, header};
 
 pub const REPLACE_KIND: u32 = 1;
 
 pub const PRUNE_KIND: u32 = 2;
 
-#[derive(Clone, Copy)]
+#[derive(Clone, Copy, Debug, PartialEq, Eq)]
 pub enum Pending {
     Clean(u32),
     Replace(u32),
@@ -17,52 +16,64 @@ pub enum Pending {
     Mark(u32),
 }
 
-pub fn pending_of(word: u32) -> Pending
-    ensures { result ≡ pending_of word }
-{
-    let record = word / 4;
-    let kind = word % 4;
-    match kind {
-        0 => Pending::Clean(record),
-        1 => Pending::Replace(record),
-        2 => Pending::Prune(record),
-        _ => Pending::Mark(record),
+impl From<u32> for Pending {
+    ghost use Rattle.nodes.specs.Pending.{pending_of};
+
+    ghost from_gives = { λ word pending. pending ≡ pending_of word };
+
+    fn from(word: u32) -> Pending
+        ensures { result ≡ pending_of word }
+    {
+        let record = word / 4;
+        match word % 4 {
+            0 => Pending::Clean(record),
+            1 => Pending::Replace(record),
+            2 => Pending::Prune(record),
+            _ => Pending::Mark(record),
+        }
     }
 }
 
 // In 64 bits, since a value that never stood in a block may have any record number.
-pub fn word_of(pending: Pending) -> u64
-    ensures { result ≡ word_of pending }
-{
-    match pending {
-        Pending::Clean(record) => 4 * (record as u64),
-        Pending::Replace(record) => 4 * (record as u64) + 1,
-        Pending::Prune(record) => 4 * (record as u64) + 2,
-        Pending::Mark(record) => 4 * (record as u64) + 3,
+impl From<Pending> for u64 {
+    ghost use Rattle.nodes.specs.Pending.{word_of};
+
+    ghost from_gives = { λ pending word. word ≡ word_of pending };
+
+    fn from(pending: Pending) -> u64
+        ensures { result ≡ word_of pending }
+    {
+        match pending {
+            Pending::Clean(record) => 4 * u64::from(record),
+            Pending::Replace(record) => 4 * u64::from(record) + 1,
+            Pending::Prune(record) => 4 * u64::from(record) + 2,
+            Pending::Mark(record) => 4 * u64::from(record) + 3,
+        }
     }
 }
 
+#[tactic(auto, unfolding(tables::specs::Choice::both))]
 pub fn record_in_use(h: Header, number: u32) -> bool
     ensures { result ≡ record_in_use h number }
 {
-    choice::within(1, number as u64, h.recordsused as u64)
+    1 <= number && number <= u32::from(h.recordsused)
 }
 
+#[tactic(auto, unfolding(tables::specs::Choice::both))]
 pub fn record_of_kind(block: &[u32], h: Header, number: u32, kind: u32) -> bool
     ensures { result ≡ record_of_kind block.now h number kind }
 {
-    let used = record_in_use(h, number);
-    let word = header::record_word(block, h, number, 0);
-    choice::and(used, choice::same(word as u64, kind as u64))
+    record_in_use(h, number) && h.record_word(block, number, 0) == kind
 }
 
 pub fn pending_good(block: &[u32], h: Header, pending: Pending) -> bool
     ensures { result ≡ pending_good block.now h pending }
 {
     match pending {
-        Pending::Clean(record) => choice::at_most(record as u64, h.recordsused as u64),
+        Pending::Clean(record) => record <= u32::from(h.recordsused),
         Pending::Replace(record) => record_of_kind(block, h, record, REPLACE_KIND),
-        Pending::Prune(record) => record_of_kind(block, h, record, PRUNE_KIND),
-        Pending::Mark(record) => record_of_kind(block, h, record, PRUNE_KIND),
+        Pending::Prune(record) | Pending::Mark(record) => {
+            record_of_kind(block, h, record, PRUNE_KIND)
+        }
     }
 }

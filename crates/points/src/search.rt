@@ -17,7 +17,7 @@ use tables::{choice, header, words};
 pub fn point_1(block: &[u32], h: Header, q: Process) -> Stepped
     ensures { out result block.now ≡ row_done block.now q (row1 block.now h q) }
 {
-    let seen = pending::pending_of(header::pending_word(block, h, q.p));
+    let seen = pending::pending_of(h.pending_word(block, q.p));
     if pending::pending_good(block, h, seen) {
         let read = process::with_pseen(q, seen);
         process::goes_on(process::with_point(read, 2))
@@ -126,7 +126,7 @@ fn mask_with(q: Process, kin: Kin) -> u32
     ensures { result ≡ mask_with q kin }
 {
     if help::non_empty(kin) {
-        let bit = 1u32 << words::prev(q.index);
+        let bit = 1u32 << q.index.saturating_sub(1);
         q.mask | bit
     } else {
         q.mask
@@ -138,7 +138,7 @@ fn point_after(block: &[u32], h: Header, q: Process, mask: u32) -> u32
     ensures { result ≡ point_after3 block.now h q mask }
 {
     let two = u32::count_ones(mask) == 2;
-    let one = choice::same(header::tag_word(block, h, q.l) as u64, 1);
+    let one = choice::same(h.tag_word(block, q.l) as u64, 1);
     if choice::and(two, one) { 5 } else { 4 }
 }
 

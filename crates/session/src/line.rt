@@ -177,7 +177,7 @@ fn steps(block: &mut [u32], row: [Process; 32], process: u32, times: u32) -> Hel
 fn record_of(row: [Process; 32], process: u32) -> Process
     ensures { result ≡ record_of row process }
 {
-    let at = words::prev(process) as usize;
+    let at = process.saturating_sub(1) as usize;
     if at < 32 {
         row[at]
     } else {

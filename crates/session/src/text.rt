@@ -39,7 +39,7 @@ pub fn put_said(buffer: &mut [u8], said: Said, list: &[u32]) -> usize
     match said {
         Said::Nothing => 0,
         Said::Answered(a) => write::write_answer(buffer, 0, a),
-        Said::Refused(e) => write::write_refused(buffer, 0, numbers::number_of(e)),
+        Said::Refused(e) => write::write_refused(buffer, 0, e.number()),
         Said::Listed(c) => {
             let next = write::write_count(buffer, 0, c);
             put_front(buffer, next, list, c.count)

@@ -96,7 +96,7 @@ fn left_after(left: u32, answer: StepAnswer) -> u32
     ensures { result ≡ left_after left answer }
 {
     match answer {
-        StepAnswer::GoesOn => words::prev(left),
+        StepAnswer::GoesOn => left.saturating_sub(1),
         StepAnswer::Ended(_, _) => 0,
         StepAnswer::Refused(_) => 0,
     }

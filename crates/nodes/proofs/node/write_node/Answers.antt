@@ -8,7 +8,7 @@ pub loop-o-init : goal.loop-o-init
 loop-o-init c = search (rules, sets-start)
 
 pub loop-o-preserved : goal.loop-o-preserved
-loop-o-preserved c = (search rules, (omega arith, search sets_again))
+loop-o-preserved c = (omega arith, search sets_again)
 
 pub returns : goal.returns
-returns c = search sets-done
+returns c = sets-done _ _ _ _ _ _ (rw c.from.ensures at c.loop-o.invariant.1) (omega (arith, c.from.ensures))

@@ -8,7 +8,7 @@ use Rattle.nodes.specs.Node.{image_word}
 use Rattle.nodes.proofs.node.write_node.Given as goal
 
 abbrev pub invariant-loop-o : goal.invariant-loop-o
-invariant-loop-o l = (l.o ≤ l.n) × ((length l.block ≡ length l.initial.block) × (sets l.initial.block (6 + (l.node - 1) * (2 * l.h.k + 1) + 0) (listed (image_word l.h.k l.tag l.keys l.first l.pending) 0 l.n) ≡ sets l.block (6 + (l.node - 1) * (2 * l.h.k + 1) + l.o) (listed (image_word l.h.k l.tag l.keys l.first l.pending) l.o (l.n - l.o))))
-
-abbrev pub decreases-loop-o : goal.decreases-loop-o
-decreases-loop-o l = l.n - l.o
+invariant-loop-o l =
+    (length l.block ≡ length l.initial.block)
+    × (sets l.initial.block (6 + (l.node - 1) * (2 * l.h.k + 1) + 0) (listed (image_word l.h.k l.tag l.keys l.first l.pending) 0 l.o-end)
+    ≡ sets l.block (6 + (l.node - 1) * (2 * l.h.k + 1) + l.o) (listed (image_word l.h.k l.tag l.keys l.first l.pending) l.o (l.o-end - l.o)))
