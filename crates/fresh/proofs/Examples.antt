@@ -7,7 +7,7 @@ use Rattle.tables.specs.Choice.{pick, both, listed}
 use Rattle.tables.specs.Numbers.{numbers_good}
 use Rattle.tables.specs.Layout.{depth_of, block_words}
 use Rattle.fresh.specs.Fresh.{fresh_header, fresh_block, make_out, make_of}
-use Rattle.fresh.specs.declared.Made.TheVariants.{Done, Refused}
+use Rattle.std.specs.Prelude.{Ok, Err}
 use Rattle.tables.specs.declared.numbers.Refusal.TheVariants.{MakingNumber, TooShort}
 
 -- "Example: k=2, 1 process, 16 nodes, 8 records: D is 5, 155 words."
@@ -39,15 +39,15 @@ unfolding pick listed
 fresh8 = refl
 
 -- "Words and records beyond those needed are untouched."
-pub made_longer : make_of (replicate 157 7) 2 1 16 8 ≡ make_out Done (block2 ++ 7 ∷ 7 ∷ [])
+pub made_longer : make_of (replicate 157 7) 2 1 16 8 ≡ make_out (Ok tt) (block2 ++ 7 ∷ 7 ∷ [])
 unfolding pick both listed numbers_good
 made_longer = refl
 
 -- one word too short; a node limit of 2k
-pub made_short : make_of (replicate 154 7) 2 1 16 8 ≡ make_out (Refused TooShort) (replicate 154 7)
+pub made_short : make_of (replicate 154 7) 2 1 16 8 ≡ make_out (Err TooShort) (replicate 154 7)
 unfolding pick both listed numbers_good
 made_short = refl
 
-pub made_narrow : make_of (replicate 157 7) 2 1 4 8 ≡ make_out (Refused MakingNumber) (replicate 157 7)
+pub made_narrow : make_of (replicate 157 7) 2 1 4 8 ≡ make_out (Err MakingNumber) (replicate 157 7)
 unfolding pick both listed numbers_good
 made_narrow = refl

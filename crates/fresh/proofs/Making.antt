@@ -17,7 +17,7 @@ use Rattle.nodes.specs.Node.{image_word, internal_image, with_node}
 use Rattle.fresh.specs.Fresh.{fresh_header, header_image, root_image, dummy_image, fresh_block, making_reasons, make_out, make_of, written_fresh}
 use Rattle.tables.specs.Header.{header_from}
 use Rattle.tables.specs.declared.header.Header.{Header}
-use Rattle.fresh.specs.declared.Made.TheVariants.{Done, Refused}
+use Rattle.std.specs.Prelude.{Ok, Err}
 use Rattle.tables.specs.declared.numbers.Refusal.TheVariants.{MakingNumber, TooShort}
 use Rattle.tables.proofs.Lists.{length-listed, listed_ext}
 use Rattle.tables.proofs.OneToOne.{none_accepts}
@@ -111,17 +111,17 @@ pub fresh_by : (h : Header) (b c d x : List ℕ) → c ≡ sets b 0 (header_imag
 fresh_by h b c d x e f g = cc
 
 module _ (b : List ℕ) (k p n r m : ℕ) (t : Bool) (e : m ≡ k_stored k) (f : t ≡ numbers_good m p n r) where
-  pub make_bad : t ≡ false → make_out (Refused MakingNumber) b ≡ make_of b k p n r
+  pub make_bad : t ≡ false → make_out (Err MakingNumber) b ≡ make_of b k p n r
   unfolding pick
   make_bad g = cc
 
   module _ (u w : ℕ) (g : t ≡ true) (d : u ≡ fresh_nodes m) (l : w ≡ block_words (header_from m p n u r 0)) where
-    pub make_short : length b < w → make_out (Refused TooShort) b ≡ make_of b k p n r
+    pub make_short : length b < w → make_out (Err TooShort) b ≡ make_of b k p n r
     unfolding pick
     make_short q = cc (lt-ltb (length b) w q)
 
-    pub make_done : (c x : List ℕ) → w ≤ length b → c ≡ over_front (replicate w 0) b → x ≡ written_fresh (header_from m p n u r 0) c → make_out Done x ≡ make_of b k p n r
-    make_done c x q i j = ap (λ (y : List ℕ). make_out Done y) made ∙ sym (none_accepts (λ n. make_out (Refused (refusal n)) b) _ (making_reasons b k p n r) (nor (ap not good) (nor (le-ltb (length b) (block_words h) (rw long at q)) none)))
+    pub make_done : (c x : List ℕ) → w ≤ length b → c ≡ over_front (replicate w 0) b → x ≡ written_fresh (header_from m p n u r 0) c → make_out (Ok tt) x ≡ make_of b k p n r
+    make_done c x q i j = ap (λ (y : List ℕ). make_out (Ok tt) y) made ∙ sym (none_accepts (λ n. make_out (Err (refusal n)) b) _ (making_reasons b k p n r) (nor (ap not good) (nor (le-ltb (length b) (block_words h) (rw long at q)) none)))
       where
         h : Header
         h = fresh_header k p n r

@@ -1,5 +1,5 @@
 -- "Fresh tree (Figure 6)", whole: the block and the row of process records that making leaves, and when it is refused.
-use Rattle.std.specs.Prelude.{ℕ, ◌+◌, ◌*◌, ◌-◌, not, List, [], ◌∷◌, ◌++◌, ltb, length, replicate}
+use Rattle.std.specs.Prelude.{ℕ, ◌+◌, ◌*◌, ◌-◌, not, List, [], ◌∷◌, ◌++◌, ltb, length, replicate, Result, Ok, Err}
 use Rattle.std.proofs.lemmas.List.Edits.{sets}
 use Rattle.tables.specs.Choice.{Reason, reason, decide}
 use Rattle.tables.specs.Numbers.{k_stored, fresh_nodes, header_words, node_words, infinity, key_room, numbers_good}
@@ -7,8 +7,7 @@ use Rattle.tables.specs.Refusal.{refusal}
 use Rattle.tables.specs.Layout.{block_words, over_front}
 use Rattle.nodes.specs.Node.{internal_image, with_node}
 use Rattle.tables.specs.declared.header.Header.{Header}
-use Rattle.fresh.specs.declared.Made.{Made}
-use Rattle.fresh.specs.declared.Made.TheVariants.{Done, Refused}
+use Rattle.tables.specs.declared.numbers.Refusal.{Refusal}
 
 -- the header of a fresh tree
 abbrev pub fresh_header : ℕ → ℕ → ℕ → ℕ → Header
@@ -52,17 +51,17 @@ making_reasons b k processes nodes records =
 
 -- what making a block answers, and the block then
 pub record MakeOut : Type 0 where
-  pub made : Made
+  pub made : Result (Unit {0}) Refusal
   pub block : List ℕ
 
-abbrev pub make_out : Made → List ℕ → MakeOut
+abbrev pub make_out : Result (Unit {0}) Refusal → List ℕ → MakeOut
 make_out made block = record { made = made; block = block }
 
 abbrev pub make_of : List ℕ → ℕ → ℕ → ℕ → ℕ → MakeOut
 make_of b k processes nodes records =
     decide (making_reasons b k processes nodes records)
-    (λ n. make_out (Refused (refusal n)) b)
-    (make_out Done (over_front (fresh_block (fresh_header k processes nodes records)) b))
+    (λ n. make_out (Err (refusal n)) b)
+    (make_out (Ok tt) (over_front (fresh_block (fresh_header k processes nodes records)) b))
 
 -- the header, the root and the dummy written over a block
 abbrev pub written_fresh : Header → List ℕ → List ℕ

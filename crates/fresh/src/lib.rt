@@ -1,7 +1,7 @@
 // "Fresh tree (Figure 6)": making on a lent block. The one call here is total: it asks nothing of its caller and states its result and the whole block on every input.
 #![tactic(auto)]
 
-ghost use Rattle.std.specs.Prelude.{◌≡◌, ◌≤◌, [], ◌∷◌, length, replicate};
+ghost use Rattle.std.specs.Prelude.{◌≡◌, ◌≤◌, [], ◌∷◌, length, replicate, Result};
 ghost use Rattle.std.proofs.lemmas.List.Edits.{sets};
 ghost use Rattle.tables.specs.Layout.{over_front};
 ghost use Rattle.fresh.specs.Fresh.{make_out, make_of, header_image, written_fresh};
@@ -10,12 +10,6 @@ use nodes::node;
 use tables::header::Header;
 use tables::numbers::Refusal;
 use tables::{header, numbers, words};
-
-#[derive(Clone, Copy)]
-pub enum Made {
-    Done,
-    Refused(Refusal),
-}
 
 // Every word of the block's needed length to 0; those beyond are untouched.
 fn clear(block: &mut [u32], count: u64)
@@ -65,27 +59,26 @@ fn write_fresh(block: &mut [u32], h: Header)
 }
 
 // Making on a lent block: refusals 1, 2, else the fresh tree.
-pub fn make_block(block: &mut [u32], k: u32, processes: u32, nodes: u32, records: u32) -> Made
+pub fn make_block(block: &mut [u32], k: u32, processes: u32, nodes: u32, records: u32) -> Result<(), Refusal>
     ensures { make_out result block.new ≡ make_of block.old k processes nodes records }
 {
     let stored = numbers::k_stored(k);
-    if numbers::numbers_good(stored, processes, nodes, records) {
-        let h = Header {
-            k: stored as u8,
-            processes: processes as u8,
-            nodes: nodes as u16,
-            nodesused: numbers::fresh_nodes(stored) as u16,
-            records: records as u16,
-            recordsused: 0,
-        };
-        let n = h.block_words();
-        if (block.len() as u64) < n {
-            return Made::Refused(Refusal::TooShort);
-        }
-        clear(block, n);
-        write_fresh(block, h);
-        Made::Done
-    } else {
-        Made::Refused(Refusal::MakingNumber)
+    if !numbers::numbers_good(stored, processes, nodes, records) {
+        return Err(Refusal::MakingNumber);
     }
+    let h = Header {
+        k: stored as u8,
+        processes: processes as u8,
+        nodes: nodes as u16,
+        nodesused: numbers::fresh_nodes(stored) as u16,
+        records: records as u16,
+        recordsused: 0,
+    };
+    let n = h.block_words();
+    if (block.len() as u64) < n {
+        return Err(Refusal::TooShort);
+    }
+    clear(block, n);
+    write_fresh(block, h);
+    Ok(())
 }
