@@ -1,12 +1,11 @@
 -- What a step answers: document 01's numbers, and the process record that goes with each.
 use Rattle.std.specs.Prelude.{ℕ, ◌+◌, [], ◌∷◌, ltb, get_or}
 use Rattle.tables.specs.Choice.{pick}
-use Rattle.tables.specs.declared.numbers.Refusal.{Refusal}
 use Rattle.process.specs.Process.{idle, with_steps}
 use Rattle.process.specs.declared.Process.{Process}
 use Rattle.process.specs.declared.Answer.{Answer}
 use Rattle.process.specs.declared.Answer.TheVariants.{No, Yes, Full}
-use Rattle.process.specs.declared.StepAnswer.TheVariants.{GoesOn, Ended, Refused}
+use Rattle.process.specs.declared.Progress.TheVariants.{GoesOn, Ended}
 use Rattle.process.specs.declared.Stepped.{Stepped}
 
 -- "Answers: 0 no, 1 yes, 2 full."
@@ -27,12 +26,8 @@ steps_up steps = pick (ltb steps most_steps) (steps + 1) steps
 
 -- "Short of one, a step says that it goes on."
 abbrev pub going_on : Process → Stepped
-going_on q = record { answer = GoesOn; process = with_steps q (steps_up q.steps) }
+going_on q = record { progress = GoesOn; process = with_steps q (steps_up q.steps) }
 
 -- "An answer leaves the process idle and reports the steps."
 abbrev pub ending_of : Process → Answer → Stepped
-ending_of q a = record { answer = Ended a (steps_up q.steps); process = idle }
-
--- "A refusal returns its number and changes nothing lent."
-abbrev pub refused_as : Process → Refusal → Stepped
-refused_as q e = record { answer = Refused e; process = q }
+ending_of q a = record { progress = Ended a (steps_up q.steps); process = idle }

@@ -1,2 +1,0 @@
--- The laws of the process record, return by return.
-pub mod Laws
