@@ -10,25 +10,27 @@ ghost use Rattle.help.specs.Touch.{out, row_done};
 ghost use Rattle.help.specs.Help.{top_of, help_ended, top_good};
 ghost use Rattle.finish.specs.Rows.{looked_for, look_row, hang_row, unflag_row, row6, row7, row8, row12, row13, row14};
 
-use nodes::node::Child;
 use nodes::{node, pending};
 use process::{Process, Stepped};
 use tables::header::Header;
-use tables::{choice, header, words};
+use tables::numbers::Refusal;
+use tables::words;
 
+#[tactic(auto, unfolding(tables::specs::Choice::pick))]
 fn looked_for(h: Header, q: Process, seen: u32, target: u32, found: u32, missed: u32) -> Process
     ensures { going_on result ≡ looked_for h q seen target found missed }
 {
     if seen == target {
-        process::with_point(q, found)
-    } else if q.index < (h.k as u32) {
-        process::with_index(q, q.index + 1)
+        q.with_point(found)
+    } else if q.index < u32::from(h.k) {
+        q.with_index(q.index + 1)
     } else {
-        process::with_point(q, missed)
+        q.with_point(missed)
     }
 }
 
 // Look for a node among the children of another.
+#[tactic(auto, unfolding(tables::specs::Choice::pick, tables::specs::Choice::both, help::specs::Touch::row_done, crate::specs::Rows::look_row))]
 fn look(
     block: &[u32],
     h: Header,
@@ -37,17 +39,18 @@ fn look(
     target: u32,
     found: u32,
     missed: u32,
-) -> Stepped
-    ensures { out result block.now ≡ row_done block.now q (look_row block.now h q parent target found missed) }
+) -> Result<Stepped, Refusal>
+    ensures { out result block.now ≡ row_done block.now (look_row block.now h q parent target found missed) }
 {
     let seen = h.child_word(block, parent, q.index);
-    let Child::Node(_) = node::below_of(block, h, parent, seen) else {
-        return help::damaged(q);
+    let Some(_) = node::below_of(block, h, parent, seen) else {
+        return Err(Refusal::Damaged);
     };
-    process::goes_on(looked_for(h, q, seen, target, found, missed))
+    Ok(looked_for(h, q, seen, target, found, missed).goes_on())
 }
 
 // The swap of one word, where it was seen as the word to be swapped.
+#[tactic(auto, unfolding(tables::specs::Choice::pick))]
 fn swap(block: &mut [u32], at: u64, seen: u32, from: u32, to: u32)
     ensures { block.new ≡ pick (eqb seen from) (set block.old at to) block.old }
 {
@@ -57,6 +60,7 @@ fn swap(block: &mut [u32], at: u64, seen: u32, from: u32, to: u32)
 }
 
 // Swap that child for a node that stands above the parent.
+#[tactic(auto, unfolding(tables::specs::Choice::pick, tables::specs::Choice::both, help::specs::Touch::row_done, crate::specs::Rows::hang_row))]
 fn hang(
     block: &mut [u32],
     h: Header,
@@ -65,51 +69,53 @@ fn hang(
     from: u32,
     to: u32,
     next: u32,
-) -> Stepped
-    ensures { out result block.new ≡ row_done block.old q (hang_row block.old h q parent from to next) }
+) -> Result<Stepped, Refusal>
+    ensures { out result block.new ≡ row_done block.old (hang_row block.old h q parent from to next) }
 {
     let seen = h.child_word(block, parent, q.index);
-    let sound = node::is_node(node::below_of(block, h, parent, seen));
-    if choice::and(sound, choice::below(parent as u64, to as u64)) {
+    if node::below_of(block, h, parent, seen).is_some() && parent < to {
         swap(block, h.child_at(parent, q.index), seen, from, to);
-        process::goes_on(process::with_point(q, next))
+        Ok(q.with_point(next).goes_on())
     } else {
-        help::damaged(q)
+        Err(Refusal::Damaged)
     }
 }
 
 // The pending seen is good, and the stack top that help's end may need is a prune.
+#[tactic(auto, unfolding(tables::specs::Choice::both))]
 fn flag_sound(block: &[u32], h: Header, n: u32, q: Process, word: u32) -> bool
     ensures { result ≡ both (pending_good block.now h (pending_of word)) (top_good block.now h q.depth (top_of block.now h n q)) }
 {
     let top = help::top_of(block, h, n, q);
-    let seen = help::seen_good(block, h, word);
-    choice::and(seen, help::top_good(block, h, q.depth, top))
-}
-
-fn ended(block: &[u32], h: Header, n: u32, q: Process) -> Stepped
-    ensures { result ≡ help_ended true (top_of block.now h n q) q }
-{
-    help::help_ended(true, help::top_of(block, h, n, q), q)
+    help::seen_good(block, h, word) && help::top_good(block, h, q.depth, top)
 }
 
 // Swap a node's pending from this flag to clean with its number; help ends.
-fn unflag(block: &mut [u32], h: Header, n: u32, q: Process, node: u32, kind: u32) -> Stepped
-    ensures { out result block.new ≡ row_done block.old q (unflag_row block.old h n q node kind) }
+#[tactic(auto, unfolding(tables::specs::Choice::pick, tables::specs::Choice::both, help::specs::Touch::row_done, crate::specs::Rows::unflag_row))]
+fn unflag(
+    block: &mut [u32],
+    h: Header,
+    n: u32,
+    q: Process,
+    node: u32,
+    kind: u32,
+) -> Result<Stepped, Refusal>
+    ensures { out result block.new ≡ row_done block.old (unflag_row block.old h n q node kind) }
 {
     let word = h.pending_word(block, node);
     if flag_sound(block, h, n, q, word) {
-        let end = ended(block, h, n, q);
+        let top = help::top_of(block, h, n, q);
         help::clear_flag(block, h, node, word, q.helped, kind);
-        end
+        Ok(help::help_ended(true, top, q))
     } else {
-        help::damaged(q)
+        Err(Refusal::Damaged)
     }
 }
 
 // 6. Read child i of p. Equal to l: 7. After child k without a match: 8.
-pub fn point_6(block: &[u32], h: Header, q: Process) -> Stepped
-    ensures { out result block.now ≡ row_done block.now q (row6 block.now h q) }
+#[tactic(auto, unfolding(crate::specs::Rows::row6))]
+pub fn point_6(block: &[u32], h: Header, q: Process) -> Result<Stepped, Refusal>
+    ensures { out result block.now ≡ row_done block.now (row6 block.now h q) }
 {
     let p = help::helped_p(block, h, q);
     let l = help::helped_l(block, h, q);
@@ -117,8 +123,9 @@ pub fn point_6(block: &[u32], h: Header, q: Process) -> Stepped
 }
 
 // 7. Swap that child from l to the new child. To 8.
-pub fn point_7(block: &mut [u32], h: Header, q: Process) -> Stepped
-    ensures { out result block.new ≡ row_done block.old q (row7 block.old h q) }
+#[tactic(auto, unfolding(crate::specs::Rows::row7))]
+pub fn point_7(block: &mut [u32], h: Header, q: Process) -> Result<Stepped, Refusal>
+    ensures { out result block.new ≡ row_done block.old (row7 block.old h q) }
 {
     let p = help::helped_p(block, h, q);
     let l = help::helped_l(block, h, q);
@@ -127,16 +134,18 @@ pub fn point_7(block: &mut [u32], h: Header, q: Process) -> Stepped
 }
 
 // 8. Swap p's pending from this replace to clean with the same record number. Help ends.
-pub fn point_8(block: &mut [u32], h: Header, n: u32, q: Process) -> Stepped
-    ensures { out result block.new ≡ row_done block.old q (row8 block.old h n q) }
+#[tactic(auto, unfolding(crate::specs::Rows::row8))]
+pub fn point_8(block: &mut [u32], h: Header, n: u32, q: Process) -> Result<Stepped, Refusal>
+    ensures { out result block.new ≡ row_done block.old (row8 block.old h n q) }
 {
     let p = help::helped_p(block, h, q);
     unflag(block, h, n, q, p, pending::REPLACE_KIND)
 }
 
 // 12. Read child i of gp, looking for p. Found: 13. None: 14.
-pub fn point_12(block: &[u32], h: Header, q: Process) -> Stepped
-    ensures { out result block.now ≡ row_done block.now q (row12 block.now h q) }
+#[tactic(auto, unfolding(crate::specs::Rows::row12))]
+pub fn point_12(block: &[u32], h: Header, q: Process) -> Result<Stepped, Refusal>
+    ensures { out result block.now ≡ row_done block.now (row12 block.now h q) }
 {
     let gp = help::helped_third(block, h, q);
     let p = help::helped_p(block, h, q);
@@ -144,8 +153,9 @@ pub fn point_12(block: &[u32], h: Header, q: Process) -> Stepped
 }
 
 // 13. Swap that child from p to the noted node. To 14.
-pub fn point_13(block: &mut [u32], h: Header, q: Process) -> Stepped
-    ensures { out result block.new ≡ row_done block.old q (row13 block.old h q) }
+#[tactic(auto, unfolding(crate::specs::Rows::row13))]
+pub fn point_13(block: &mut [u32], h: Header, q: Process) -> Result<Stepped, Refusal>
+    ensures { out result block.new ≡ row_done block.old (row13 block.old h q) }
 {
     let gp = help::helped_third(block, h, q);
     let p = help::helped_p(block, h, q);
@@ -153,8 +163,9 @@ pub fn point_13(block: &mut [u32], h: Header, q: Process) -> Stepped
 }
 
 // 14. Swap gp's pending from this prune to clean with its number. Help ends.
-pub fn point_14(block: &mut [u32], h: Header, n: u32, q: Process) -> Stepped
-    ensures { out result block.new ≡ row_done block.old q (row14 block.old h n q) }
+#[tactic(auto, unfolding(crate::specs::Rows::row14))]
+pub fn point_14(block: &mut [u32], h: Header, n: u32, q: Process) -> Result<Stepped, Refusal>
+    ensures { out result block.new ≡ row_done block.old (row14 block.old h n q) }
 {
     let gp = help::helped_third(block, h, q);
     unflag(block, h, n, q, gp, pending::PRUNE_KIND)

@@ -1,5 +1,5 @@
 -- Points 4 and 5 of document 01, one definition for each row, beside the row's words and the lines of the report's Figures 9 and 10.
-use Rattle.std.specs.Prelude.{ℕ, ◌+◌, ◌*◌, Bool, false, not, List, ltb, eqb}
+use Rattle.std.specs.Prelude.{ℕ, ◌+◌, ◌*◌, Bool, false, not, List, ltb, eqb, Err}
 use Rattle.tables.specs.Choice.{pick, both, either}
 use Rattle.tables.specs.Refusal.{refusal}
 use Rattle.tables.specs.Layout.{tag_word}
@@ -10,7 +10,7 @@ use Rattle.tables.specs.declared.header.Header.{Header}
 use Rattle.nodes.specs.declared.node.Kin.{Kin}
 use Rattle.nodes.specs.declared.node.Kin.TheVariants.{Leaf, Internal}
 use Rattle.process.specs.Process.{with_own, to_six, to_nine}
-use Rattle.process.specs.Answer.{answer, going_on, ending_of, refused_as}
+use Rattle.process.specs.Answer.{answer, going_on, ending_of}
 use Rattle.process.specs.declared.Process.{Process}
 use Rattle.process.specs.declared.Stepped.{Stepped}
 use Rattle.draws.specs.Draw.{new_record, room_for, needed_nodes, replace_drawn, prune_drawn}
@@ -69,4 +69,4 @@ row5 b h n q = record {
 
 -- 5 of any process record: "the value read on the way down is the expected one", and one that no word of a record can hold is damage
 unfoldable pub prune_flagged : List ℕ → Header → ℕ → Process → Out
-prune_flagged b h n q = pick (ltb (word_of q.pseen) 4294967296) (row_done b q (row5 b h n q)) (out (refused_as q (refusal 3)) b)
+prune_flagged b h n q = pick (ltb (word_of q.pseen) 4294967296) (row_done b (row5 b h n q)) (out (Err (refusal 3)) b)

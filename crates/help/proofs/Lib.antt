@@ -1,3 +1,2 @@
 -- The laws of a row and of helping, return by return.
 pub mod Rowed
-pub mod Helps

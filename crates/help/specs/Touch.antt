@@ -1,10 +1,10 @@
 -- "Each accepted step does the one row of its point .. and touches one shared word": the touch, the row around it, and what a step hands back.
-use Rattle.std.specs.Prelude.{ℕ, Bool, false, List, eqb, set}
+use Rattle.std.specs.Prelude.{ℕ, Bool, false, List, eqb, set, Result, Ok, Err}
 use Rattle.tables.specs.Choice.{pick}
 use Rattle.tables.specs.Refusal.{refusal}
 use Rattle.tables.specs.Layout.{node_at, node_word}
 use Rattle.tables.specs.declared.header.Header.{Header}
-use Rattle.process.specs.Answer.{refused_as}
+use Rattle.tables.specs.declared.numbers.Refusal.{Refusal}
 use Rattle.process.specs.declared.Process.{Process}
 use Rattle.process.specs.declared.Stepped.{Stepped}
 
@@ -44,12 +44,12 @@ pub record Row : Type 0 where
 
 -- what a step hands back, and the block then
 pub record Out : Type 0 where
-  pub stepped : Stepped
+  pub stepped : Result Stepped Refusal
   pub block : List ℕ
 
-abbrev pub out : Stepped → List ℕ → Out
+abbrev pub out : Result Stepped Refusal → List ℕ → Out
 out s b = record { stepped = s; block = b }
 
 -- a row that is done where it is sound, else refused 3
-unfoldable pub row_done : List ℕ → Process → Row → Out
-row_done b q row = pick row.sound (out row.stepped row.block) (out (refused_as q (refusal 3)) b)
+unfoldable pub row_done : List ℕ → Row → Out
+row_done b row = pick row.sound (out (Ok row.stepped) row.block) (out (Err (refusal 3)) b)

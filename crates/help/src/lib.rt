@@ -5,9 +5,7 @@
 ghost use Rattle.std.specs.Prelude.{◌≡◌, ◌+◌, ◌*◌, eqb, set};
 ghost use Rattle.tables.specs.Choice.{pick};
 ghost use Rattle.tables.specs.Layout.{node_at, pending_place};
-ghost use Rattle.tables.specs.Refusal.{refusal};
 ghost use Rattle.nodes.specs.Pending.{pending_of, pending_good};
-ghost use Rattle.process.specs.Answer.{refused_as};
 ghost use Rattle.help.specs.Help.{helped_l, helped_p, helped_third, top_of, help_ended, top_good, help_good};
 ghost use Rattle.help.specs.Help.{helping as helping_of};
 ghost use Rattle.help.specs.Reads.{non_empty};
@@ -17,20 +15,12 @@ use nodes::pending;
 use nodes::pending::Pending;
 use process::{Answer, Process, Stepped};
 use tables::header::Header;
-use tables::numbers::Refusal;
-use tables::{choice, header, words};
-
-pub fn damaged(q: Process) -> Stepped
-    ensures { result ≡ refused_as q (refusal 3) }
-{
-    process::refused(q, Refusal::Damaged)
-}
+use tables::words;
 
 pub fn seen_good(block: &[u32], h: Header, word: u32) -> bool
     ensures { result ≡ pending_good block.now h (pending_of word) }
 {
-    let seen = pending::pending_of(word);
-    pending::pending_good(block, h, seen)
+    pending::pending_good(block, h, Pending::from(word))
 }
 
 // The record on top of the process's help stack.
@@ -41,17 +31,16 @@ pub fn top_of(block: &[u32], h: Header, n: u32, q: Process) -> u32
 }
 
 // Help ends: the top record's point 10, or yes at 8 and 14 if the own record is set, or a restart.
+#[tactic(auto, unfolding(tables::specs::Choice::pick, tables::specs::Choice::both, crate::specs::Help::help_ended))]
 pub fn help_ended(last: bool, top: u32, q: Process) -> Stepped
     ensures { result ≡ help_ended last top q }
 {
-    if q.depth == 0 {
-        if choice::and(last, q.own != 0) {
-            process::ends(q, Answer::Yes)
-        } else {
-            process::goes_on(process::restarted(q))
-        }
+    if q.depth != 0 {
+        q.to_ten(top).goes_on()
+    } else if last && q.own != 0 {
+        q.ends(Answer::Yes)
     } else {
-        process::goes_on(process::to_ten(q, top))
+        q.restarted().goes_on()
     }
 }
 
@@ -60,21 +49,18 @@ pub fn helping(top: u32, q: Process, seen: Pending) -> Stepped
 {
     match seen {
         Pending::Clean(_) => help_ended(false, top, q),
-        Pending::Replace(number) => process::goes_on(process::to_six(q, number)),
-        Pending::Prune(number) => process::goes_on(process::to_nine(q, number)),
-        Pending::Mark(number) => process::goes_on(process::to_eleven(q, number)),
+        Pending::Replace(number) => q.to_six(number).goes_on(),
+        Pending::Prune(number) => q.to_nine(number).goes_on(),
+        Pending::Mark(number) => q.to_eleven(number).goes_on(),
     }
 }
 
 // A stack top that is made the record helped is a prune.
+#[tactic(auto, unfolding(tables::specs::Choice::pick))]
 pub fn top_good(block: &[u32], h: Header, depth: u32, top: u32) -> bool
     ensures { result ≡ top_good block.now h depth top }
 {
-    if depth == 0 {
-        true
-    } else {
-        pending::record_of_kind(block, h, top, pending::PRUNE_KIND)
-    }
+    depth == 0 || pending::record_of_kind(block, h, top, pending::PRUNE_KIND)
 }
 
 pub fn help_good(block: &[u32], h: Header, depth: u32, top: u32, seen: Pending) -> bool
@@ -82,9 +68,7 @@ pub fn help_good(block: &[u32], h: Header, depth: u32, top: u32, seen: Pending) 
 {
     match seen {
         Pending::Clean(_) => top_good(block, h, depth, top),
-        Pending::Replace(_) => true,
-        Pending::Prune(_) => true,
-        Pending::Mark(_) => true,
+        Pending::Replace(_) | Pending::Prune(_) | Pending::Mark(_) => true,
     }
 }
 
@@ -93,7 +77,7 @@ pub fn non_empty(kin: Kin) -> bool
     ensures { result ≡ non_empty kin }
 {
     match kin {
-        Kin::Leaf(_, count) => { if count == 0 { false } else { true } }
+        Kin::Leaf(_, count) => count != 0,
         Kin::Internal(_) => true,
     }
 }
@@ -118,10 +102,11 @@ pub fn helped_third(block: &[u32], h: Header, q: Process) -> u32
 }
 
 // The swap of a node's pending from a flag of the record helped to clean with its number: a flag without its kind is that.
+#[tactic(auto, unfolding(tables::specs::Choice::pick))]
 pub fn clear_flag(block: &mut [u32], h: Header, node: u32, word: u32, helped: u32, kind: u32)
     ensures { block.new ≡ pick (eqb word (4 * helped + kind)) (set block.old (node_at h node (pending_place h.k)) (4 * helped)) block.old }
 {
-    if (word as u64) == 4 * (helped as u64) + (kind as u64) {
+    if u64::from(word) == 4 * u64::from(helped) + u64::from(kind) {
         words::put_at(block, h.pending_at(node), word - kind);
     }
 }

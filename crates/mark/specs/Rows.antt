@@ -1,5 +1,5 @@
 -- Points 9, 10, 11 of document 01, one definition for each row, beside the row's words and the lines of the report's Figure 11.
-use Rattle.std.specs.Prelude.{ℕ, ◌+◌, ◌-◌, Bool, false, not, List, ltb, eqb, set}
+use Rattle.std.specs.Prelude.{ℕ, ◌+◌, ◌-◌, Bool, false, not, List, ltb, eqb, set, Err}
 use Rattle.tables.specs.Choice.{pick, both, either}
 use Rattle.tables.specs.Refusal.{refusal}
 use Rattle.tables.specs.Layout.{depth_of, stack_at, stack_word}
@@ -7,7 +7,7 @@ use Rattle.nodes.specs.Pending.{pending_of, record_of_kind, prune_kind}
 use Rattle.tables.specs.declared.header.Header.{Header}
 use Rattle.nodes.specs.declared.node.Kin.{Kin}
 use Rattle.process.specs.Process.{with_index, with_other, with_depth, to_eleven, to_twelve}
-use Rattle.process.specs.Answer.{going_on, refused_as}
+use Rattle.process.specs.Answer.{going_on}
 use Rattle.process.specs.declared.Process.{Process}
 use Rattle.process.specs.declared.Stepped.{Stepped}
 use Rattle.help.specs.Touch.{Touch, seen_by, succeeds, touched, Row, Out, out, row_done}
@@ -35,7 +35,7 @@ row9 b h n q = record {
 
 -- 9 of any process record: a mark with a number that no word has room for is damage
 unfoldable pub prune_marked : List ℕ → Header → ℕ → Process → Out
-prune_marked b h n q = pick (ltb (flag_word q.helped 3) 4294967296) (row_done b q (row9 b h n q)) (out (refused_as q (refusal 3)) b)
+prune_marked b h n q = pick (ltb (flag_word q.helped 3) 4294967296) (row_done b (row9 b h n q)) (out (Err (refusal 3)) b)
 
 -- 10. "Swap gp's pending from this prune to clean with its number; pop." "A pop sets its stack word to 0." (Figure 11, line 122.)
 abbrev pub touch10 : List ℕ → Header → Process → Touch

@@ -11,7 +11,7 @@ use Rattle.tables.specs.declared.header.Header.{Header}
 use Rattle.nodes.specs.declared.node.Kin.{Kin}
 use Rattle.nodes.specs.declared.node.Kin.TheVariants.{Leaf, Internal}
 use Rattle.process.specs.Process.{with_point, with_p_seen, with_l, with_index, with_mask, descended_of, to_three, is_clean_of}
-use Rattle.process.specs.Answer.{answer, going_on, ending_of, refused_as}
+use Rattle.process.specs.Answer.{answer, going_on, ending_of}
 use Rattle.process.specs.declared.Process.{Process}
 use Rattle.process.specs.declared.Stepped.{Stepped}
 use Rattle.help.specs.Touch.{Touch, reads, seen_by, Row}
@@ -104,7 +104,7 @@ row3 b h q = record {
 
 -- a point outside the fourteen has no row, and is damage
 unfoldable pub no_row : List ℕ → Process → Row
-no_row b q = record { touch = reads 0 0; sound = false; stepped = refused_as q (refusal 3); block = b }
+no_row b q = record { touch = reads 0 0; sound = false; stepped = going_on q; block = b }
 
 -- "Each accepted step does the one row of its point"
 unfoldable pub row_of : List ℕ → Header → ℕ → Process → Row

@@ -1,2 +1,0 @@
--- The laws of points 9, 10, 11.
-pub mod Marks
