@@ -1,9 +1,6 @@
--- The proof that `point_4` keeps its contract.
-use Rattle.flag.proofs.Flags.{fours}
+-- 4 with a leaf: the row, by its tests.
+use Rattle.flag.proofs.Flags.{four_leaf}
 use Rattle.flag.proofs.point_4.Goals as goal
 
-pub returns-in_default : goal.returns-in_default
-returns-in_default c = search fours
-
 pub returns : goal.returns
-returns c = search fours
+returns c = search four_leaf

@@ -1,12 +1,9 @@
--- The proof that `point_5` keeps its contract.
-use Rattle.flag.proofs.Flags.{fives}
+-- 5 with a sound word: the row, by its tests.
+use Rattle.std.proofs.Common.{◌∙◌, sym, arith}
+use Rattle.flag.proofs.Flags.{gp_row}
 use Rattle.flag.proofs.point_5.Goals as goal
 
-pub returns-then-word_of-ge4294967296 : goal.returns-then-word_of-ge4294967296
-returns-then-word_of-ge4294967296 c = search fives
-
 pub returns-then-seen_good : goal.returns-then-seen_good
-returns-then-seen_good c = search fives
-
-pub returns-else-seen_good : goal.returns-else-seen_good
-returns-else-seen_good c = search fives
+returns-then-seen_good c =
+    c.flag_gp.ensures
+    ∙ gp_row _ _ _ _ _ c.pending_word-word.ensures (sym c.seen_good.ensures ∙ c.if-seen_good.true) (omega (arith, c.from.ensures, c.if-from-ge4294967296.false))

@@ -1,9 +1,0 @@
--- The proof that `drawn_replace` keeps its contract.
-use Rattle.flag.proofs.Flags.{drawing}
-use Rattle.flag.proofs.drawn_replace.Goals as goal
-
-pub returns-then-drawn : goal.returns-then-drawn
-returns-then-drawn c = search drawing
-
-pub returns-else-drawn : goal.returns-else-drawn
-returns-else-drawn c = search drawing
