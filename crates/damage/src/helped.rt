@@ -2,66 +2,69 @@
 ghost use Rattle.std.specs.Prelude.{◌≡◌};
 ghost use Rattle.damage.specs.Helped.{owner_good, third_good, places_good, expected_good, record_good, kind_at, helped_good};
 
+use nodes::pending::Pending;
 use nodes::{node, pending};
 use process::Process;
 use tables::header::Header;
-use tables::{choice, header, numbers};
+use tables::numbers;
 
+#[tactic(auto, unfolding(tables::specs::Choice::both))]
 fn owner_good(block: &[u32], h: Header, number: u32) -> bool
     ensures { result ≡ owner_good block.now h number }
 {
     let operation = h.record_word(block, number, 6);
     let key = h.record_word(block, number, 7);
     let owner = h.record_word(block, number, 5);
-    let a = choice::within(2, operation as u64, 3);
-    let b = choice::below(key as u64, numbers::INFINITY as u64);
-    let c = choice::within(1, owner as u64, h.processes as u64);
-    choice::and(a, choice::and(b, c))
+    process::INSERT <= operation
+        && operation <= process::DELETE
+        && key < numbers::INFINITY
+        && 1 <= owner
+        && owner <= u32::from(h.processes)
 }
 
+#[tactic(auto, unfolding(tables::specs::Choice::pick))]
 fn third_good(block: &[u32], h: Header, kind: u32, number: u32) -> bool
     ensures { result ≡ third_good block.now h kind number }
 {
     let third = h.record_word(block, number, 3);
     if kind == pending::REPLACE_KIND {
         let p = h.record_word(block, number, 2);
-        node::is_node(node::below_of(block, h, p, third))
+        node::below_of(block, h, p, third).is_some()
     } else {
         node::is_internal(node::kin_of(block, h, third))
     }
 }
 
+#[tactic(auto, unfolding(tables::specs::Choice::both))]
 fn places_good(block: &[u32], h: Header, kind: u32, number: u32) -> bool
     ensures { result ≡ places_good block.now h kind number }
 {
     let p = h.record_word(block, number, 2);
     let l = h.record_word(block, number, 1);
-    let a = node::is_internal(node::kin_of(block, h, p));
-    let b = node::is_leaf(node::kin_of(block, h, l));
-    let c = third_good(block, h, kind, number);
-    choice::and(a, choice::and(b, c))
+    node::is_internal(node::kin_of(block, h, p))
+        && node::is_leaf(node::kin_of(block, h, l))
+        && third_good(block, h, kind, number)
 }
 
+#[tactic(auto, unfolding(tables::specs::Choice::both))]
 fn expected_good(block: &[u32], h: Header, number: u32) -> bool
     ensures { result ≡ expected_good block.now h number }
 {
-    let word = h.record_word(block, number, 4);
-    let seen = pending::pending_of(word);
-    let a = process::is_clean(seen);
-    let b = pending::pending_good(block, h, seen);
-    choice::and(a, b)
+    let seen = Pending::from(h.record_word(block, number, 4));
+    process::is_clean(seen) && pending::pending_good(block, h, seen)
 }
 
+#[tactic(auto, unfolding(tables::specs::Choice::both, crate::specs::Helped::record_good))]
 fn record_good(block: &[u32], h: Header, kind: u32, number: u32) -> bool
     ensures { result ≡ record_good block.now h kind number }
 {
-    let a = pending::record_of_kind(block, h, number, kind);
-    let b = owner_good(block, h, number);
-    let c = places_good(block, h, kind, number);
-    let d = expected_good(block, h, number);
-    choice::and(a, choice::and(b, choice::and(c, d)))
+    pending::record_of_kind(block, h, number, kind)
+        && owner_good(block, h, number)
+        && places_good(block, h, kind, number)
+        && expected_good(block, h, number)
 }
 
+#[tactic(auto, unfolding(tables::specs::Choice::pick))]
 fn kind_at(point: u32) -> u32
     ensures { result ≡ kind_at point }
 {
@@ -72,12 +75,9 @@ fn kind_at(point: u32) -> u32
     }
 }
 
+#[tactic(auto, unfolding(tables::specs::Choice::pick, crate::specs::Helped::helped_good))]
 pub fn helped_good(block: &[u32], h: Header, q: Process) -> bool
     ensures { result ≡ helped_good block.now h q }
 {
-    if q.point < 6 {
-        true
-    } else {
-        record_good(block, h, kind_at(q.point), q.helped)
-    }
+    q.point < 6 || record_good(block, h, kind_at(q.point), q.helped)
 }
