@@ -22,7 +22,7 @@ abbrev pub Accepted : List ℕ → ℕ → ℕ → Process → Type 0
 Accepted b rows n q = NoneHolds (step_reasons b rows n q)
 
 pub accepted_does : (b : List ℕ) (rows n : ℕ) (q : Process) → Accepted b rows n q → step_of b rows n q ≡ step_done b (header_of b) n q
-accepted_does b rows n q a = none_accepts (step_refused b q) (step_done b (header_of b) n q) (step_reasons b rows n q) a
+accepted_does b rows n q a = none_accepts (step_refused b) (step_done b (header_of b) n q) (step_reasons b rows n q) a
 
 pub record Known (b : List ℕ) (h : Header) (n : ℕ) (q : Process) : Type 0 where
   pub good : header_good h ≡ true

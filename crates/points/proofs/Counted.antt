@@ -1,10 +1,11 @@
 -- What an accepted step answers: it counts one step more, an answer leaves the process idle, and full comes exactly where a swap of 4 or 5 finds no room.
 use Prim.Native.Nat.{ℕ, ◌+◌, ◌-◌}
-use mathlib.Core.Path.{◌≡◌, refl, sym, subst}
+use mathlib.Core.Path.{◌≡◌, refl, sym, ap, subst, ◌∙◌}
 use mathlib.Core.Bool.{Bool, true, false, not}
 use mathlib.Core.List.{List}
 use native.Mathlib.Omega.{arith}
 use lib.Dec.{eqb}
+use Rattle.std.specs.Prelude.{Ok, Err}
 use Rattle.tables.specs.Choice.{pick, both, either}
 use Rattle.tables.specs.Layout.{tag_word}
 use Rattle.nodes.specs.Pending.{pending_of}
@@ -21,8 +22,8 @@ use Rattle.process.specs.Answer.{answer, steps_up, going_on, ending_of}
 use Rattle.process.specs.declared.Process.{Process}
 use Rattle.process.specs.declared.Answer.{Answer}
 use Rattle.process.specs.declared.Answer.TheVariants.{No, Yes, Full}
-use Rattle.process.specs.declared.StepAnswer.{StepAnswer}
-use Rattle.process.specs.declared.StepAnswer.TheVariants.{GoesOn, Ended, Refused}
+use Rattle.process.specs.declared.Progress.{Progress}
+use Rattle.process.specs.declared.Progress.TheVariants.{GoesOn, Ended}
 use Rattle.process.specs.declared.Stepped.{Stepped}
 use Rattle.draws.specs.Draw.{new_record, room_for, needed_nodes}
 use Rattle.help.specs.Touch.{seen_by, succeeds, Row, Out}
@@ -52,22 +53,20 @@ draws_at b h q row = both (flags_at b h q row) (room_for h (needed_at b h q))
 abbrev pub full_at : List ℕ → Header → Process → Row → Bool
 full_at b h q row = both (flags_at b h q row) (not (room_for h (needed_at b h q)))
 
-abbrev pub is_full : StepAnswer → Bool
+abbrev pub is_full : Progress → Bool
 is_full GoesOn = false
 is_full (Ended No s) = false
 is_full (Ended Yes s) = false
 is_full (Ended Full s) = true
-is_full (Refused e) = false
 
 -- a step that goes on has so many steps in its record; an answer reports them and leaves the process idle
-abbrev pub Counts : ℕ → StepAnswer → Process → Type 0
+abbrev pub Counts : ℕ → Progress → Process → Type 0
 Counts steps GoesOn q = q.steps ≡ steps
 Counts steps (Ended a s) q = (s ≡ steps) × (q ≡ idle)
-Counts steps (Refused e) q = ⊥
 
 pub record Told (full : Bool) (steps : ℕ) (s : Stepped) : Type 0 where
-  pub counts : Counts steps s.answer s.process
-  pub full_is : is_full s.answer ≡ full
+  pub counts : Counts steps s.progress s.process
+  pub full_is : is_full s.progress ≡ full
 
 on : (q : Process) → Told false (steps_up q.steps) (going_on q)
 on q = record { counts = refl; full_is = refl }
@@ -198,24 +197,26 @@ module _ (b : List ℕ) (h : Header) (n : ℕ) (q : Process) where
 
 -- The theorems, of every accepted step: "adds 1 to steps", "An answer leaves the process idle and reports the steps", and when it is full.
 module _ (b : List ℕ) (rows n : ℕ) (q : Process) (a : Accepted b rows n q) where
-  abbrev said : Stepped
-  said = (step_of b rows n q).stepped
+  it_does : (step_of b rows n q).stepped ≡ Ok (row_of b (header_of b) n q).stepped
+  it_does = ap (λ (o : Out). o.stepped) (accepted_does b rows n q a)
 
-  pub step_tells : Told (full_at b (header_of b) q (row_of b (header_of b) n q)) (steps_up q.steps) said
-  step_tells =
-      subst (λ (o : Out). Told (full_at b (header_of b) q (row_of b (header_of b) n q)) (steps_up q.steps) o.stepped) (sym (accepted_does b rows n q a))
-      (row_tells b (header_of b) n q (accepted_known b rows n q a).sound)
+  pub never_refused : (e : Refusal) → (step_of b rows n q).stepped ≡ Err e → ⊥
+  never_refused e f = let x = sym it_does ∙ f in let z : ◌≡◌ {A = ℕ} 0 1 = cc in omega arith
 
-  pub goes_on_counts : said.answer ≡ GoesOn → said.process.steps ≡ steps_up q.steps
-  goes_on_counts e = subst (λ (s : StepAnswer). Counts (steps_up q.steps) s said.process) e step_tells.counts
+  module _ (said : Stepped) (e : (step_of b rows n q).stepped ≡ Ok said) where
+    is_row : (row_of b (header_of b) n q).stepped ≡ said
+    is_row = let x = sym it_does ∙ e in cc
 
-  pub ended_counts : (r : Answer) (s : ℕ) → said.answer ≡ Ended r s → (s ≡ steps_up q.steps) × (said.process ≡ idle)
-  ended_counts r s e = subst (λ (x : StepAnswer). Counts (steps_up q.steps) x said.process) e step_tells.counts
+    pub step_tells : Told (full_at b (header_of b) q (row_of b (header_of b) n q)) (steps_up q.steps) said
+    step_tells =
+        subst (λ (s : Stepped). Told (full_at b (header_of b) q (row_of b (header_of b) n q)) (steps_up q.steps) s) is_row
+        (row_tells b (header_of b) n q (accepted_known b rows n q a).sound)
 
-  pub never_refused : (e : Refusal) → (row_of b (header_of b) n q).stepped.answer ≡ Refused e → ⊥
-  never_refused e f =
-      subst (λ (x : StepAnswer). Counts (steps_up q.steps) x (row_of b (header_of b) n q).stepped.process) f
-      (row_tells b (header_of b) n q (accepted_known b rows n q a).sound).counts
+    pub goes_on_counts : said.progress ≡ GoesOn → said.process.steps ≡ steps_up q.steps
+    goes_on_counts f = subst (λ (s : Progress). Counts (steps_up q.steps) s said.process) f step_tells.counts
 
-  pub full_exactly : is_full said.answer ≡ full_at b (header_of b) q (row_of b (header_of b) n q)
-  full_exactly = step_tells.full_is
+    pub ended_counts : (r : Answer) (s : ℕ) → said.progress ≡ Ended r s → (s ≡ steps_up q.steps) × (said.process ≡ idle)
+    ended_counts r s f = subst (λ (x : Progress). Counts (steps_up q.steps) x said.process) f step_tells.counts
+
+    pub full_exactly : is_full said.progress ≡ full_at b (header_of b) q (row_of b (header_of b) n q)
+    full_exactly = step_tells.full_is

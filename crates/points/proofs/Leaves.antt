@@ -7,6 +7,7 @@ use native.Mathlib.Omega.{arith}
 use lib.Dec.{ltb, leb, eqb}
 use lib.ListN.{length, set}
 use borrow.Author.Tests.{leb-true, ltb-true, eqb-false, eq-eqb, le-ltb, lt-leb, not-true}
+use Rattle.std.specs.Prelude.{Option, None}
 use Rattle.tables.specs.Choice.{pick, both, either}
 use Rattle.tables.specs.Layout.{depth_of, stack_at, tag_word, child_place, pending_place}
 use Rattle.tables.specs.Place.{Place, in_node}
@@ -14,8 +15,7 @@ use Rattle.nodes.specs.Pending.{word_of}
 use Rattle.nodes.specs.Node.{kin_of, node_good, is_internal}
 use Rattle.nodes.specs.Keys.{keys_of, route_of}
 use Rattle.tables.specs.declared.header.Header.{Header}
-use Rattle.nodes.specs.declared.node.Child.{Child}
-use Rattle.nodes.specs.declared.node.Child.TheVariants.{Damaged}
+use Rattle.nodes.specs.declared.node.Kin.{Kin}
 use Rattle.tables.proofs.Picks.{both_1, both_2, pick_true, pick_false, within_low, within_high}
 use Rattle.tables.proofs.Lists.{length-listed}
 use Rattle.nodes.proofs.Keyed.{first_in}
@@ -72,7 +72,7 @@ internal_used b h node e =
     let g : node_good b h node ≡ true = go (node_good b h node) _ e in
     record { from_one = within_low 1 node _ (both_1 _ _ g); to_used = within_high 1 node _ (both_1 _ _ g) }
   where
-    go : (t : Bool) (c : Child) → is_internal (pick t c Damaged) ≡ true → t ≡ true
+    go : (t : Bool) (c : Option Kin) → is_internal (pick t c None) ≡ true → t ≡ true
     go true c e = refl
     go false c e = e
 

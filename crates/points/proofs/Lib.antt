@@ -1,5 +1,4 @@
--- The laws of start and the fourteen points, return by return; then, from Accepted on, the theorems: answers, refusals, what a step touches and leaves.
-pub mod Searches
+-- The laws of start and the fourteen points; then, from Accepted on, the theorems: answers, refusals, what a step touches and leaves.
 pub mod Steps
 pub mod Accepted
 pub mod Counted

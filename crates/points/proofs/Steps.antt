@@ -6,22 +6,19 @@ use mathlib.Core.List.{List}
 use native.Mathlib.Omega.{arith}
 use lib.Dec.{ltb}
 use borrow.Author.Tests.{leb-true, lt-ltb, le-ltb, eq-eqb, ne_eqb}
+use Rattle.std.specs.Prelude.{Result, Ok, Err}
 use Rattle.tables.specs.Choice.{pick, both, within}
 use Rattle.tables.specs.Numbers.{infinity}
 use Rattle.tables.specs.Refusal.{refusal}
 use Rattle.tables.specs.Header.{header_of, header_good, header_read}
 use Rattle.nodes.specs.Pending.{word_of, pending_good}
 use Rattle.tables.specs.declared.header.Header.{Header}
-use Rattle.tables.specs.declared.header.HeaderRead.{HeaderRead}
-use Rattle.tables.specs.declared.header.HeaderRead.TheVariants.{Good, Refused}
 use Rattle.tables.specs.declared.numbers.Refusal.{Refusal}
-use Rattle.tables.specs.declared.numbers.Refusal.TheVariants.{TooShort, NoSuchProcess, UnknownOperation, InfinityGiven, Busy, Idle}
 use Rattle.nodes.specs.declared.pending.Pending.{Pending}
 use Rattle.nodes.specs.declared.pending.Pending.TheVariants.{Clean, Replace, Prune, Mark}
 use Rattle.tables.proofs.Picks.{both_1, both_2, both_true, pick_true, pick_false, within_high}
 use Rattle.tables.proofs.Limits.{Limits, limits, read_header, read_limits, read_refuses, read_accepts}
 use Rattle.process.specs.Process.{started_as}
-use Rattle.process.specs.Answer.{refused_as}
 use Rattle.process.specs.declared.Process.{Process}
 use Rattle.process.specs.declared.Stepped.{Stepped}
 use Rattle.damage.specs.Fields.{process_good, numbers_good, records_good}
@@ -32,10 +29,8 @@ use Rattle.mark.specs.Rows.{row9, row10, row11, prune_marked}
 use Rattle.help.proofs.Rowed.{row_not, at_row}
 use Rattle.flag.specs.Rows.{row4, row5, prune_flagged}
 use Rattle.points.specs.Rows.{row1, row2, row3, row_of, no_row}
-use Rattle.points.specs.Step.{step_refused, step_done, step_of, sound_step, started, start_of}
+use Rattle.points.specs.Step.{step_refused, step_done, step_of, sound_step, start_of}
 use Rattle.points.specs.Parts.{Ready, step_good, start_known, start_good}
-use Rattle.points.specs.declared.start.StartAnswer.TheVariants as answers
-use Rattle.points.specs.declared.start.Started.{Started}
 
 -- a fact of each row, at its point, is a fact of the row of the point
 module _ (P : Row → Type 0) (b : List ℕ) (h : Header) (n : ℕ) (q : Process) where
@@ -117,58 +112,58 @@ module _ (b : List ℕ) (h : Header) (n : ℕ) (q : Process) where
   unfolding row_of pick
   row_at_14 e = rw e refl
 
-  fits_5 : Ready q → prune_flagged b h n q ≡ row_done b q (row5 b h n q)
+  fits_5 : Ready q → prune_flagged b h n q ≡ row_done b (row5 b h n q)
   unfolding prune_flagged pick
   fits_5 r = rw (lt-ltb (word_of q.pseen) 4294967296 r.pseen_small) refl
 
-  fits_9 : Ready q → q.point ≡ 9 → prune_marked b h n q ≡ row_done b q (row9 b h n q)
+  fits_9 : Ready q → q.point ≡ 9 → prune_marked b h n q ≡ row_done b (row9 b h n q)
   unfolding prune_marked pick
   fits_9 r e = rw (lt-ltb (4 * q.helped + 3) 4294967296 (omega (arith, r.helped_small (omega arith)))) refl
 
-  module _ (s : Stepped) (e : List ℕ) where
-    pub at_1 : q.point ≡ 1 → out s e ≡ row_done b q (row1 b h q) → out s e ≡ row_done b q (row_of b h n q)
-    at_1 f g = g ∙ ap (row_done b q) (sym (row_at_1 f))
+  module _ (s : Result Stepped Refusal) (e : List ℕ) where
+    pub at_1 : q.point ≡ 1 → out s e ≡ row_done b (row1 b h q) → out s e ≡ row_done b (row_of b h n q)
+    at_1 f g = g ∙ ap (row_done b) (sym (row_at_1 f))
 
-    pub at_2 : q.point ≡ 2 → out s e ≡ row_done b q (row2 b h q) → out s e ≡ row_done b q (row_of b h n q)
-    at_2 f g = g ∙ ap (row_done b q) (sym (row_at_2 f))
+    pub at_2 : q.point ≡ 2 → out s e ≡ row_done b (row2 b h q) → out s e ≡ row_done b (row_of b h n q)
+    at_2 f g = g ∙ ap (row_done b) (sym (row_at_2 f))
 
-    pub at_3 : q.point ≡ 3 → out s e ≡ row_done b q (row3 b h q) → out s e ≡ row_done b q (row_of b h n q)
-    at_3 f g = g ∙ ap (row_done b q) (sym (row_at_3 f))
+    pub at_3 : q.point ≡ 3 → out s e ≡ row_done b (row3 b h q) → out s e ≡ row_done b (row_of b h n q)
+    at_3 f g = g ∙ ap (row_done b) (sym (row_at_3 f))
 
-    pub at_4 : q.point ≡ 4 → out s e ≡ row_done b q (row4 b h n q) → out s e ≡ row_done b q (row_of b h n q)
-    at_4 f g = g ∙ ap (row_done b q) (sym (row_at_4 f))
+    pub at_4 : q.point ≡ 4 → out s e ≡ row_done b (row4 b h n q) → out s e ≡ row_done b (row_of b h n q)
+    at_4 f g = g ∙ ap (row_done b) (sym (row_at_4 f))
 
     -- the value read on the way down is a word in a sound record
-    pub at_5 : Ready q → q.point ≡ 5 → out s e ≡ prune_flagged b h n q → out s e ≡ row_done b q (row_of b h n q)
-    at_5 r f g = g ∙ fits_5 r ∙ ap (row_done b q) (sym (row_at_5 f))
+    pub at_5 : Ready q → q.point ≡ 5 → out s e ≡ prune_flagged b h n q → out s e ≡ row_done b (row_of b h n q)
+    at_5 r f g = g ∙ fits_5 r ∙ ap (row_done b) (sym (row_at_5 f))
 
-    pub at_6 : q.point ≡ 6 → out s e ≡ row_done b q (row6 b h q) → out s e ≡ row_done b q (row_of b h n q)
-    at_6 f g = g ∙ ap (row_done b q) (sym (row_at_6 f))
+    pub at_6 : q.point ≡ 6 → out s e ≡ row_done b (row6 b h q) → out s e ≡ row_done b (row_of b h n q)
+    at_6 f g = g ∙ ap (row_done b) (sym (row_at_6 f))
 
-    pub at_7 : q.point ≡ 7 → out s e ≡ row_done b q (row7 b h q) → out s e ≡ row_done b q (row_of b h n q)
-    at_7 f g = g ∙ ap (row_done b q) (sym (row_at_7 f))
+    pub at_7 : q.point ≡ 7 → out s e ≡ row_done b (row7 b h q) → out s e ≡ row_done b (row_of b h n q)
+    at_7 f g = g ∙ ap (row_done b) (sym (row_at_7 f))
 
-    pub at_8 : q.point ≡ 8 → out s e ≡ row_done b q (row8 b h n q) → out s e ≡ row_done b q (row_of b h n q)
-    at_8 f g = g ∙ ap (row_done b q) (sym (row_at_8 f))
+    pub at_8 : q.point ≡ 8 → out s e ≡ row_done b (row8 b h n q) → out s e ≡ row_done b (row_of b h n q)
+    at_8 f g = g ∙ ap (row_done b) (sym (row_at_8 f))
 
     -- and the number of a sound record has room in a mark
-    pub at_9 : Ready q → q.point ≡ 9 → out s e ≡ prune_marked b h n q → out s e ≡ row_done b q (row_of b h n q)
-    at_9 r f g = g ∙ fits_9 r f ∙ ap (row_done b q) (sym (row_at_9 f))
+    pub at_9 : Ready q → q.point ≡ 9 → out s e ≡ prune_marked b h n q → out s e ≡ row_done b (row_of b h n q)
+    at_9 r f g = g ∙ fits_9 r f ∙ ap (row_done b) (sym (row_at_9 f))
 
-    pub at_10 : q.point ≡ 10 → out s e ≡ row_done b q (row10 b h n q) → out s e ≡ row_done b q (row_of b h n q)
-    at_10 f g = g ∙ ap (row_done b q) (sym (row_at_10 f))
+    pub at_10 : q.point ≡ 10 → out s e ≡ row_done b (row10 b h n q) → out s e ≡ row_done b (row_of b h n q)
+    at_10 f g = g ∙ ap (row_done b) (sym (row_at_10 f))
 
-    pub at_11 : q.point ≡ 11 → out s e ≡ row_done b q (row11 b h q) → out s e ≡ row_done b q (row_of b h n q)
-    at_11 f g = g ∙ ap (row_done b q) (sym (row_at_11 f))
+    pub at_11 : q.point ≡ 11 → out s e ≡ row_done b (row11 b h q) → out s e ≡ row_done b (row_of b h n q)
+    at_11 f g = g ∙ ap (row_done b) (sym (row_at_11 f))
 
-    pub at_12 : q.point ≡ 12 → out s e ≡ row_done b q (row12 b h q) → out s e ≡ row_done b q (row_of b h n q)
-    at_12 f g = g ∙ ap (row_done b q) (sym (row_at_12 f))
+    pub at_12 : q.point ≡ 12 → out s e ≡ row_done b (row12 b h q) → out s e ≡ row_done b (row_of b h n q)
+    at_12 f g = g ∙ ap (row_done b) (sym (row_at_12 f))
 
-    pub at_13 : q.point ≡ 13 → out s e ≡ row_done b q (row13 b h q) → out s e ≡ row_done b q (row_of b h n q)
-    at_13 f g = g ∙ ap (row_done b q) (sym (row_at_13 f))
+    pub at_13 : q.point ≡ 13 → out s e ≡ row_done b (row13 b h q) → out s e ≡ row_done b (row_of b h n q)
+    at_13 f g = g ∙ ap (row_done b) (sym (row_at_13 f))
 
-    pub at_14 : q.point ≡ 14 → out s e ≡ row_done b q (row14 b h n q) → out s e ≡ row_done b q (row_of b h n q)
-    at_14 f g = g ∙ ap (row_done b q) (sym (row_at_14 f))
+    pub at_14 : q.point ≡ 14 → out s e ≡ row_done b (row14 b h n q) → out s e ≡ row_done b (row_of b h n q)
+    at_14 f g = g ∙ ap (row_done b) (sym (row_at_14 f))
 
   -- a point outside the fourteen has no row
   no_row_lem : (q.point ≡ 1 → ⊥) → (q.point ≡ 2 → ⊥) → (q.point ≡ 3 → ⊥) → (q.point ≡ 4 → ⊥) → (q.point ≡ 5 → ⊥) → (q.point ≡ 6 → ⊥) → (q.point ≡ 7 → ⊥) → (q.point ≡ 8 → ⊥) → (q.point ≡ 9 → ⊥) → (q.point ≡ 10 → ⊥) → (q.point ≡ 11 → ⊥) → (q.point ≡ 12 → ⊥) → (q.point ≡ 13 → ⊥) → (q.point ≡ 14 → ⊥) → row_of b h n q ≡ no_row b q
@@ -192,16 +187,17 @@ module _ (b : List ℕ) (h : Header) (n : ℕ) (q : Process) where
       )
       refl
 
-  module _ (s : Stepped) (e : s ≡ refused_as q (refusal 3)) where
-    not_a_row : out s b ≡ row_done b q (no_row b q)
-    unfolding no_row
-    not_a_row = row_not b q (no_row b q) s refl e
+  not_a_row : out (Err (refusal 3)) b ≡ row_done b (no_row b q)
+  unfolding no_row
+  not_a_row = row_not b (no_row b q) refl
 
-    pub at_none : (q.point ≡ 1 → ⊥) → (q.point ≡ 2 → ⊥) → (q.point ≡ 3 → ⊥) → (q.point ≡ 4 → ⊥) → (q.point ≡ 5 → ⊥) → (q.point ≡ 6 → ⊥) → (q.point ≡ 7 → ⊥) → (q.point ≡ 8 → ⊥) → (q.point ≡ 9 → ⊥) → (q.point ≡ 10 → ⊥) → (q.point ≡ 11 → ⊥) → (q.point ≡ 12 → ⊥) → (q.point ≡ 13 → ⊥) → (q.point ≡ 14 → ⊥) → out s b ≡ row_done b q (row_of b h n q)
-    at_none f1 f2 f3 f4 f5 f6 f7 f8 f9 f10 f11 f12 f13 f14 = not_a_row ∙ ap (row_done b q) (sym (no_row_lem f1 f2 f3 f4 f5 f6 f7 f8 f9 f10 f11 f12 f13 f14))
+  pub at_none : (q.point ≡ 1 → ⊥) → (q.point ≡ 2 → ⊥) → (q.point ≡ 3 → ⊥) → (q.point ≡ 4 → ⊥) → (q.point ≡ 5 → ⊥) → (q.point ≡ 6 → ⊥) → (q.point ≡ 7 → ⊥) → (q.point ≡ 8 → ⊥) → (q.point ≡ 9 → ⊥) → (q.point ≡ 10 → ⊥) → (q.point ≡ 11 → ⊥) → (q.point ≡ 12 → ⊥) → (q.point ≡ 13 → ⊥) → (q.point ≡ 14 → ⊥) → out (Err (refusal 3)) b ≡ row_done b (row_of b h n q)
+  at_none f1 f2 f3 f4 f5 f6 f7 f8 f9 f10 f11 f12 f13 f14 = not_a_row ∙ ap (row_done b) (sym (no_row_lem f1 f2 f3 f4 f5 f6 f7 f8 f9 f10 f11 f12 f13 f14))
 
-    pub at_zero : q.point ≡ 0 → out s b ≡ row_done b q (row_of b h n q)
-    at_zero f = at_none (λ z. omega arith) (λ z. omega arith) (λ z. omega arith) (λ z. omega arith) (λ z. omega arith) (λ z. omega arith) (λ z. omega arith) (λ z. omega arith) (λ z. omega arith) (λ z. omega arith) (λ z. omega arith) (λ z. omega arith) (λ z. omega arith) (λ z. omega arith)
+  pub at_zero : q.point ≡ 0 → out (Err (refusal 3)) b ≡ row_done b (row_of b h n q)
+  at_zero f = at_none (λ z. omega arith) (λ z. omega arith) (λ z. omega arith) (λ z. omega arith) (λ z. omega arith) (λ z. omega arith) (λ z. omega arith) (λ z. omega arith) (λ z. omega arith) (λ z. omega arith) (λ z. omega arith) (λ z. omega arith) (λ z. omega arith) (λ z. omega arith)
+
+pub ruleset outside = (at_zero, at_none)
 
 -- a pending that is good has a record number that fits a word
 record_small : (b : List ℕ) (h : Header) (v : Pending) → h.recordsused ≤ 4096 → pending_good b h v ≡ true → word_of v < 4294967296
@@ -241,124 +237,30 @@ module _ (b : List ℕ) (h : Header) (q : Process) where
   pub ready : (t : Bool) → header_good h ≡ true → t ≡ both (process_good b h q) (helped_good b h q) → t ≡ true → Ready q
   ready t g e f = ready_with (limits h g) (both_1 _ _ (sym e ∙ f)) (both_2 _ _ (sym e ∙ f))
 
--- a step that has come as far as the damage checks: the process record and the record helped are checked, then the row
-damage_rest : (p f r : Bool) (x y : Out) → both p f ≡ true → pick r y x ≡ pick (not (both p (both f r))) x y
-unfolding pick both
-damage_rest true true true x y e = refl
-damage_rest true true false x y e = refl
-damage_rest true false r x y e = let z : ◌≡◌ {A = ℕ} 0 1 = cc in absurd (omega arith)
-damage_rest false f r x y e = let z : ◌≡◌ {A = ℕ} 0 1 = cc in absurd (omega arith)
+-- a call whose header is read goes on with it, and is refused as its reading is
+module _ (b : List ℕ) (rows n : ℕ) (q : Process) (a : Result Header Refusal) (e : a ≡ header_read b) where
+  pub step_refused_lem : (r : Refusal) → a ≡ Err r → out (Err r) b ≡ step_of b rows n q
+  step_refused_lem r f = read_refuses (λ (x : Refusal). out (Err x) b) (step_good b (header_of b) rows n q) b r (sym e ∙ f)
 
-damage_found : (p f r : Bool) (x y : Out) → both p f ≡ false → x ≡ pick (not (both p (both f r))) x y
-unfolding pick both
-damage_found true true r x y e = let z : ◌≡◌ {A = ℕ} 0 1 = cc in absurd (omega arith)
-damage_found true false r x y e = refl
-damage_found false f r x y e = refl
-
-module _ (b : List ℕ) (h : Header) (rows n : ℕ) (q : Process) (s : Stepped) where
-  pub step_short : rows < h.processes → s ≡ refused_as q TooShort → out s b ≡ step_good b h rows n q
-  unfolding pick
-  step_short p e = cc (lt-ltb rows h.processes p)
-
-  module _ (long : h.processes ≤ rows) (t : Bool) (e : t ≡ within 1 n h.processes) where
-    pub step_nobody : t ≡ false → s ≡ refused_as q NoSuchProcess → out s b ≡ step_good b h rows n q
-    unfolding pick
-    step_nobody f g = cc (le-ltb rows h.processes long)
-
-    module _ (there : t ≡ true) where
-      is_there : within 1 n h.processes ≡ true
-      is_there = sym e ∙ there
-
-      pub step_idle : q.operation ≡ 0 → s ≡ refused_as q Idle → out s b ≡ step_good b h rows n q
-      unfolding pick
-      step_idle f g = rw (le-ltb rows h.processes long, is_there, eq-eqb q.operation 0 f, g) refl
-
-      module _ (busy : q.operation ≡ 0 → ⊥) (u : Bool) (f : u ≡ both (process_good b h q) (helped_good b h q)) where
-        left_to : step_good b h rows n q ≡ pick (not (sound_step b h n q)) (step_refused b q 3) (step_done b h n q)
-        unfolding pick
-        left_to = rw (le-ltb rows h.processes long, is_there, ne_eqb q.operation 0 busy) refl
-
-        pub step_bad : u ≡ false → s ≡ refused_as q (refusal 3) → out s b ≡ step_good b h rows n q
-        step_bad j k = ap (λ (x : Stepped). out x b) k ∙ damage_found (process_good b h q) (helped_good b h q) _ _ _ (sym f ∙ j) ∙ sym left_to
-
-        pub step_row : (e' : List ℕ) → u ≡ true → out s e' ≡ row_done b q (row_of b h n q) → out s e' ≡ step_good b h rows n q
-        unfolding row_done
-        step_row e' j k = k ∙ damage_rest (process_good b h q) (helped_good b h q) (row_of b h n q).sound _ _ (sym f ∙ j) ∙ sym left_to
-
-module _ (b : List ℕ) (h : Header) (q : Process) (t u : Bool) (e : t ≡ process_good b h q) where
-  pub sound_early : q.point < 6 → t ≡ both (process_good b h q) (helped_good b h q)
-  unfolding helped_good
-  sound_early p = e ∙ sym (both_true (process_good b h q)) ∙ ap (both (process_good b h q)) (sym (pick_true (ltb q.point 6) true _ (lt-ltb q.point 6 p)))
-
-  pub sound_both : t ≡ true → u ≡ helped_good b h q → u ≡ both (process_good b h q) (helped_good b h q)
-  unfolding both
-  sound_both f g = cc
-
-  pub sound_first : t ≡ false → false ≡ both (process_good b h q) (helped_good b h q)
-  unfolding both
-  sound_first f = cc
-
-pub ruleset sounds = (sound_early, sound_both, sound_first)
-
-pub ruleset steps = (step_short, step_nobody, step_idle, step_bad, step_row)
-
-module _ (b : List ℕ) (rows n : ℕ) (q : Process) (a : HeaderRead) (s : Stepped) (e : a ≡ header_read b) where
-  pub step_refused_lem : (r : Refusal) → a ≡ Refused r → s ≡ refused_as q r → out s b ≡ step_of b rows n q
-  step_refused_lem r f g =
-      ap (λ (x : Stepped). out x b) g
-      ∙ read_refuses (λ (x : Refusal). out (refused_as q x) b) (step_good b (header_of b) rows n q) b r (sym e ∙ f)
-
-  pub step_good_lem : (e' : List ℕ) (h : Header) → a ≡ Good h → out s e' ≡ step_good b h rows n q → out s e' ≡ step_of b rows n q
-  step_good_lem e' h f g =
+  pub step_good_lem : (o : Out) (h : Header) → a ≡ Ok h → o ≡ step_good b h rows n q → o ≡ step_of b rows n q
+  step_good_lem o h f g =
       g
       ∙ ap (λ (x : Header). step_good b x rows n q) (sym (read_header b h (sym e ∙ f)))
-      ∙ read_accepts (λ (x : Refusal). out (refused_as q x) b) (step_good b (header_of b) rows n q) b h (sym e ∙ f)
+      ∙ read_accepts (λ (x : Refusal). out (Err x) b) (step_good b (header_of b) rows n q) b h (sym e ∙ f)
 
-pub header_good_lem : (b : List ℕ) (a : HeaderRead) (h : Header) → a ≡ header_read b → a ≡ Good h → header_good h ≡ true
+pub header_good_lem : (b : List ℕ) (a : Result Header Refusal) (h : Header) → a ≡ header_read b → a ≡ Ok h → header_good h ≡ true
 header_good_lem b a h e f = read_limits b h (sym e ∙ f)
 
 pub ruleset calls = (step_refused_lem, step_good_lem, header_good_lem)
 
-module _ (q : Process) (operation key : ℕ) (s : Started) (t : Bool) (e : t ≡ within 1 operation 3) where
-  pub start_unknown : t ≡ false → s ≡ started (answers.Refused UnknownOperation) q → s ≡ start_known q operation key
-  unfolding pick
-  start_unknown f g = cc
+module _ (b : List ℕ) (rows n : ℕ) (q : Process) (operation key : ℕ) (a : Result Header Refusal) (e : a ≡ header_read b) where
+  pub start_refused_lem : (r : Refusal) → a ≡ Err r → Err r ≡ start_of b rows n q operation key
+  start_refused_lem r f = read_refuses (λ (x : Refusal). Err x) (start_good (header_of b) rows n q operation key) b r (sym e ∙ f)
 
-  pub start_infinity : t ≡ true → key ≡ infinity → s ≡ started (answers.Refused InfinityGiven) q → s ≡ start_known q operation key
-  unfolding pick
-  start_infinity f g i = cc (eq-eqb key infinity g)
-
-  pub start_busy : t ≡ true → (key ≡ infinity → ⊥) → (q.operation ≡ 0 → ⊥) → s ≡ started (answers.Refused Busy) q → s ≡ start_known q operation key
-  unfolding pick
-  start_busy f g i j = cc (ne_eqb key infinity g, ne_eqb q.operation 0 i)
-
-  pub start_on : (q1 : Process) → t ≡ true → (key ≡ infinity → ⊥) → q.operation ≡ 0 → q1 ≡ started_as operation key → s ≡ started answers.Accepted q1 → s ≡ start_known q operation key
-  unfolding pick
-  start_on q1 f g i j k = cc (ne_eqb key infinity g, eq-eqb q.operation 0 i)
-
-module _ (h : Header) (rows n : ℕ) (q : Process) (operation key : ℕ) (s : Started) where
-  pub start_short : rows < h.processes → s ≡ started (answers.Refused TooShort) q → s ≡ start_good h rows n q operation key
-  unfolding pick
-  start_short p e = cc (lt-ltb rows h.processes p)
-
-  module _ (long : h.processes ≤ rows) (t : Bool) (e : t ≡ within 1 n h.processes) where
-    pub start_nobody : t ≡ false → s ≡ started (answers.Refused NoSuchProcess) q → s ≡ start_good h rows n q operation key
-    unfolding pick
-    start_nobody f g = cc (le-ltb rows h.processes long)
-
-    pub start_there : t ≡ true → s ≡ start_known q operation key → s ≡ start_good h rows n q operation key
-    unfolding pick
-    start_there f g = g ∙ rw (le-ltb rows h.processes long, sym e ∙ f) refl
-
-module _ (b : List ℕ) (rows n : ℕ) (q : Process) (operation key : ℕ) (a : HeaderRead) (s : Started) (e : a ≡ header_read b) where
-  pub start_refused_lem : (r : Refusal) → a ≡ Refused r → s ≡ started (answers.Refused r) q → s ≡ start_of b rows n q operation key
-  start_refused_lem r f g =
-      g ∙ read_refuses (λ (x : Refusal). started (answers.Refused x) q) (start_good (header_of b) rows n q operation key) b r (sym e ∙ f)
-
-  pub start_good_lem : (h : Header) → a ≡ Good h → s ≡ start_good h rows n q operation key → s ≡ start_of b rows n q operation key
-  start_good_lem h f g =
+  pub start_good_lem : (s : Result Process Refusal) (h : Header) → a ≡ Ok h → s ≡ start_good h rows n q operation key → s ≡ start_of b rows n q operation key
+  start_good_lem s h f g =
       g
       ∙ ap (λ (x : Header). start_good x rows n q operation key) (sym (read_header b h (sym e ∙ f)))
-      ∙ read_accepts (λ (x : Refusal). started (answers.Refused x) q) (start_good (header_of b) rows n q operation key) b h (sym e ∙ f)
+      ∙ read_accepts (λ (x : Refusal). Err x) (start_good (header_of b) rows n q operation key) b h (sym e ∙ f)
 
-pub ruleset starts = (start_unknown, start_infinity, start_busy, start_on, start_short, start_nobody, start_there, start_refused_lem, start_good_lem)
+pub ruleset starts = (start_refused_lem, start_good_lem)

@@ -9,6 +9,7 @@ use native.Mathlib.Decide.{ℕ_discrete}
 use lib.Dec.{eqb}
 use lib.ListN.{length, get_or, set, length-set}
 use borrow.Author.Tests.{le-leb}
+use Rattle.std.specs.Prelude.{Ok}
 use Rattle.tables.specs.Choice.{pick, both}
 use Rattle.tables.specs.Numbers.{record_words, numbers_good as in_limits}
 use Rattle.tables.specs.Layout.{block_words, node_at, node_word, record_word, tag_word, pending_place}
@@ -17,7 +18,6 @@ use Rattle.tables.specs.Place.{Place, in_header, in_node, in_record, in_stack, p
 use Rattle.nodes.specs.Pending.{word_of, replace_kind, prune_kind}
 use Rattle.tables.specs.declared.header.Header.{Header}
 use Rattle.tables.proofs.Picks.{both_1, both_2, pick_true, pick_false}
-use Rattle.tables.specs.declared.header.HeaderRead.TheVariants.{Good}
 use Rattle.tables.proofs.Limits.{read_good}
 use Rattle.tables.proofs.Places.{read_same, read_other}
 use Rattle.process.specs.declared.Process.{Process}
@@ -311,13 +311,17 @@ module _ (b : List ℕ) (rows n : ℕ) (q : Process) (a : Accepted b rows n q) w
   pub touch_shared : Shared before (touched_node its.touch) (touched_word its.touch)
   touch_shared = shares b before n q facts
 
-  -- every shared word is as the touch leaves it, unless the answer is full: then no word changes
-  pub step_shared : is_full (step_of b rows n q).stepped.answer ≡ false → (m o : ℕ) → Shared before m o →
-      node_word after before m o ≡ node_word (touched b before its.touch) before m o
-  step_shared f m o s = rw step_does (row_shared b before n q facts (sym (step_tells b rows n q a).full_is ∙ f) m o s)
+  -- what it says is what its row says
+  pub its_stepped : (step_of b rows n q).stepped ≡ Ok its.stepped
+  its_stepped = ap (λ (o : Out). o.stepped) (accepted_does b rows n q a)
 
-  pub step_full : is_full (step_of b rows n q).stepped.answer ≡ true → after ≡ b
-  step_full f = step_does ∙ row_full b before n q facts (sym (step_tells b rows n q a).full_is ∙ f)
+  -- every shared word is as the touch leaves it, unless the answer is full: then no word changes
+  pub step_shared : is_full its.stepped.progress ≡ false → (m o : ℕ) → Shared before m o →
+      node_word after before m o ≡ node_word (touched b before its.touch) before m o
+  step_shared f m o s = rw step_does (row_shared b before n q facts (sym (step_tells b rows n q a its.stepped its_stepped).full_is ∙ f) m o s)
+
+  pub step_full : is_full its.stepped.progress ≡ true → after ≡ b
+  step_full f = step_does ∙ row_full b before n q facts (sym (step_tells b rows n q a its.stepped its_stepped).full_is ∙ f)
 
   -- every place that is neither the touch nor beside it reads as before
   pub step_kept : (y : Place) → Inside before y → (place_of its.touch ≡ y → ⊥) → (Beside b before n q its y → ⊥) →
@@ -362,7 +366,7 @@ module _ (b : List ℕ) (rows n : ℕ) (q : Process) (a : Accepted b rows n q) w
   words : block_words (header_of after) ≡ block_words before
   words = ap block_words step_header ∙ same_words before _ _ (draws_at b before q its)
 
-  pub step_reads : header_read after ≡ Good (header_of after)
+  pub step_reads : header_read after ≡ Ok (header_of after)
   step_reads =
       sym
       (read_good after (header_good (header_of after)) (omega (arith, step_length, facts.long)) refl (block_words (header_of after))

@@ -1,74 +1,67 @@
 // Points 1 to 3: the way down, the leaf, and the count of p's non-empty children.
-ghost use Rattle.std.specs.Prelude.{◌≡◌, not, ◌≤◌, eqb};
+ghost use Rattle.std.specs.Prelude.{◌≡◌, not, ◌≤◌, eqb, Ok, Err};
 ghost use Rattle.tables.specs.Choice.{pick, both};
 ghost use Rattle.tables.specs.Refusal.{refusal};
 ghost use Rattle.nodes.specs.Keys.{keys_of, rises};
-ghost use Rattle.process.specs.Answer.{refused_as};
 ghost use Rattle.help.specs.Touch.{out, row_done};
 ghost use Rattle.points.specs.Rows.{insert_at, delete_at, find_at, at_leaf, at_child, leaf_good2, mask_with, point_after3, scanned3, row1, row2, row3};
 
-use nodes::node::{Child, Kin};
+use nodes::node::Kin;
+use nodes::pending::Pending;
 use nodes::{keys, node, pending};
 use process::{Answer, Process, Stepped};
 use tables::header::Header;
-use tables::{choice, header, words};
+use tables::numbers::Refusal;
 
 // 1. Read p's pending. To 2.
-pub fn point_1(block: &[u32], h: Header, q: Process) -> Stepped
-    ensures { out result block.now ≡ row_done block.now q (row1 block.now h q) }
+#[tactic(auto, unfolding(tables::specs::Choice::pick, help::specs::Touch::row_done, crate::specs::Rows::row1))]
+pub fn point_1(block: &[u32], h: Header, q: Process) -> Result<Stepped, Refusal>
+    ensures { out result block.now ≡ row_done block.now (row1 block.now h q) }
 {
-    let seen = pending::pending_of(h.pending_word(block, q.p));
+    let seen = Pending::from(h.pending_word(block, q.p));
     if pending::pending_good(block, h, seen) {
-        let read = process::with_pseen(q, seen);
-        process::goes_on(process::with_point(read, 2))
+        Ok(q.with_pseen(seen).with_point(2).goes_on())
     } else {
-        help::damaged(q)
+        Err(Refusal::Damaged)
     }
 }
 
+#[tactic(auto, unfolding(tables::specs::Choice::pick))]
 fn find_at(q: Process, held: bool) -> Stepped
     ensures { result ≡ find_at q held }
 {
-    if held {
-        process::ends(q, Answer::Yes)
-    } else {
-        process::ends(q, Answer::No)
-    }
+    q.ends(if held { Answer::Yes } else { Answer::No })
 }
 
+#[tactic(auto, unfolding(tables::specs::Choice::pick))]
 fn insert_at(q: Process, held: bool) -> Stepped
     ensures { result ≡ insert_at q held }
 {
-    let pseen = q.pseen;
     if held {
-        process::ends(q, Answer::No)
-    } else if process::is_clean(pseen) {
-        process::goes_on(process::with_point(q, 4))
+        q.ends(Answer::No)
+    } else if process::is_clean(q.pseen) {
+        q.with_point(4).goes_on()
     } else {
-        help::helping(0, q, pseen)
+        help::helping(0, q, q.pseen)
     }
 }
 
+#[tactic(auto, unfolding(tables::specs::Choice::pick))]
 fn delete_at(q: Process, held: bool) -> Stepped
     ensures { result ≡ delete_at q held }
 {
-    let gseen = q.gseen;
-    let pseen = q.pseen;
-    if held {
-        if process::is_clean(gseen) {
-            if process::is_clean(pseen) {
-                process::goes_on(process::to_three(q))
-            } else {
-                help::helping(0, q, pseen)
-            }
-        } else {
-            help::helping(0, q, gseen)
-        }
+    if !held {
+        q.ends(Answer::No)
+    } else if !process::is_clean(q.gseen) {
+        help::helping(0, q, q.gseen)
+    } else if !process::is_clean(q.pseen) {
+        help::helping(0, q, q.pseen)
     } else {
-        process::ends(q, Answer::No)
+        q.to_three().goes_on()
     }
 }
 
+#[tactic(auto, unfolding(tables::specs::Choice::pick))]
 fn at_leaf(q: Process, held: bool) -> Stepped
     ensures { result ≡ at_leaf q held }
 {
@@ -82,87 +75,87 @@ fn at_leaf(q: Process, held: bool) -> Stepped
 }
 
 // A leaf of a search: not straight below node 1, its keys in order.
+#[tactic(auto, unfolding(tables::specs::Choice::both))]
 fn leaf_good(block: &[u32], h: Header, p: u32, l: u32, count: u8) -> bool
     ensures { result ≡ both (not (eqb p 1)) (rises (keys_of block.now h l count)) }
 {
-    let rises = keys::rises(block, h, l, count);
-    if p == 1 { false } else { rises }
+    p != 1 && keys::rises(block, h, l, count)
 }
 
-fn at_child(block: &[u32], h: Header, q: Process, kin: Kin) -> Stepped
-    ensures { result ≡ pick (leaf_good2 block.now h q kin) (at_child block.now h q kin) (refused_as q (refusal 3)) }
+#[tactic(auto, unfolding(tables::specs::Choice::pick))]
+fn at_child(block: &[u32], h: Header, q: Process, kin: Kin) -> Result<Stepped, Refusal>
+    ensures { result ≡ pick (leaf_good2 block.now h q kin) (Ok (at_child block.now h q kin)) (Err (refusal 3)) }
 {
     match kin {
         Kin::Leaf(l, count) => {
-            if leaf_good(block, h, q.p, l, count) {
-                let held = keys::holds(block, h, l, count, q.key);
-                at_leaf(process::with_l(q, l), held)
-            } else {
-                help::damaged(q)
+            if !leaf_good(block, h, q.p, l, count) {
+                return Err(Refusal::Damaged);
             }
+            let held = keys::holds(block, h, l, count, q.key);
+            Ok(at_leaf(q.with_l(l), held))
         }
-        Kin::Internal(child) => {
-            let down = process::descended(q, child);
-            process::goes_on(process::with_point(down, 1))
-        }
+        Kin::Internal(child) => Ok(q.descended(child).with_point(1).goes_on()),
     }
 }
 
 // 2. Read the child of p for the key.
-pub fn point_2(block: &[u32], h: Header, q: Process) -> Stepped
-    ensures { out result block.now ≡ row_done block.now q (row2 block.now h q) }
+#[tactic(auto, using(help::proofs::Rowed::below_is), unfolding(tables::specs::Choice::pick, tables::specs::Choice::both, help::specs::Touch::row_done, crate::specs::Rows::row2))]
+pub fn point_2(block: &[u32], h: Header, q: Process) -> Result<Stepped, Refusal>
+    ensures { out result block.now ≡ row_done block.now (row2 block.now h q) }
 {
     let i = keys::route(block, h, q.p, q.key);
-    let child = node::child_of(block, h, q.p, i);
-    let Child::Node(kin) = child else {
-        return help::damaged(q);
+    let Some(kin) = node::child_of(block, h, q.p, i) else {
+        return Err(Refusal::Damaged);
     };
     at_child(block, h, q, kin)
 }
 
 // "Child i is bit i−1 of the mask."
+#[tactic(auto, unfolding(tables::specs::Choice::pick))]
 fn mask_with(q: Process, kin: Kin) -> u32
     requires { q.index ≤ 8 }
     ensures { result ≡ mask_with q kin }
 {
     if help::non_empty(kin) {
-        let bit = 1u32 << q.index.saturating_sub(1);
-        q.mask | bit
+        q.mask | 1u32 << q.index.saturating_sub(1)
     } else {
         q.mask
     }
 }
 
 // "if the count of ones in its mask is 2 and l holds one key, 5; else 4"
+#[tactic(auto, unfolding(tables::specs::Choice::pick, tables::specs::Choice::both))]
 fn point_after(block: &[u32], h: Header, q: Process, mask: u32) -> u32
     ensures { result ≡ point_after3 block.now h q mask }
 {
-    let two = u32::count_ones(mask) == 2;
-    let one = choice::same(h.tag_word(block, q.l) as u64, 1);
-    if choice::and(two, one) { 5 } else { 4 }
+    if mask.count_ones() == 2 && h.tag_word(block, q.l) == 1 {
+        5
+    } else {
+        4
+    }
 }
 
+#[tactic(auto, unfolding(tables::specs::Choice::pick))]
 fn scanned(block: &[u32], h: Header, q: Process, mask: u32) -> Stepped
     ensures { result ≡ scanned3 block.now h q mask }
 {
-    let with = process::with_mask(q, mask);
-    if q.index < (h.k as u32) {
-        process::goes_on(process::with_index(with, q.index + 1))
+    let with = q.with_mask(mask);
+    if q.index < u32::from(h.k) {
+        with.with_index(q.index + 1).goes_on()
     } else {
-        let next = point_after(block, h, q, mask);
-        process::goes_on(process::with_point(with, next))
+        with.with_point(point_after(block, h, q, mask)).goes_on()
     }
 }
 
 // 3. Read child i of p; set its bit in the mask if internal or holding a key.
-pub fn point_3(block: &[u32], h: Header, q: Process) -> Stepped
+#[tactic(auto, using(help::proofs::Rowed::below_is), unfolding(tables::specs::Choice::pick, tables::specs::Choice::both, help::specs::Touch::row_done, crate::specs::Rows::row3))]
+pub fn point_3(block: &[u32], h: Header, q: Process) -> Result<Stepped, Refusal>
     requires { q.index ≤ 8 }
-    ensures { out result block.now ≡ row_done block.now q (row3 block.now h q) }
+    ensures { out result block.now ≡ row_done block.now (row3 block.now h q) }
 {
-    let child = node::child_of(block, h, q.p, q.index);
-    let Child::Node(kin) = child else {
-        return help::damaged(q);
+    let Some(kin) = node::child_of(block, h, q.p, q.index) else {
+        return Err(Refusal::Damaged);
     };
     let mask = mask_with(q, kin);
-    scanned(block, h, q, mask)
+    Ok(scanned(block, h, q, mask))
 }

@@ -1,77 +1,60 @@
 // A start of one process record, on every input.
-ghost use Rattle.std.specs.Prelude.{◌≡◌};
-ghost use Rattle.points.specs.Step.{start_of, started as started_with};
+ghost use Rattle.std.specs.Prelude.{◌≡◌, Result};
+ghost use Rattle.points.specs.Step.{start_of};
 ghost use Rattle.points.specs.Parts.{start_known, start_good};
-ghost use Rattle.points.specs.declared.start.StartAnswer.TheVariants.{Refused};
 
 use process::Process;
-use tables::header::{Header, HeaderRead};
+use tables::header::Header;
 use tables::numbers::Refusal;
-use tables::{choice, header, numbers};
-
-#[derive(Clone, Copy)]
-pub enum StartAnswer {
-    Accepted,
-    Refused(Refusal),
-}
-
-// What a start by value hands back: its answer, and the process record then.
-#[derive(Clone, Copy)]
-pub struct Started {
-    pub answer: StartAnswer,
-    pub process: Process,
-}
-
-fn refused(q: Process, refusal: Refusal) -> Started
-    ensures { result ≡ started_with (Refused refusal) q }
-{
-    Started {
-        answer: StartAnswer::Refused(refusal),
-        process: q,
-    }
-}
+use tables::{header, numbers};
 
 // Refusals 5, 6, 7, once the process is known.
-fn start_known(q: Process, operation: u32, key: u32) -> Started
+#[tactic(auto, unfolding(tables::specs::Choice::pick, tables::specs::Choice::both))]
+fn start_known(q: Process, operation: u32, key: u32) -> Result<Process, Refusal>
     ensures { result ≡ start_known q operation key }
 {
-    if choice::within(1, operation as u64, 3) {
-        if key == numbers::INFINITY {
-            return refused(q, Refusal::InfinityGiven);
-        }
-        if q.operation == 0 {
-            Started {
-                answer: StartAnswer::Accepted,
-                process: process::started_as(operation, key),
-            }
-        } else {
-            refused(q, Refusal::Busy)
-        }
+    if operation < process::FIND || process::DELETE < operation {
+        Err(Refusal::UnknownOperation)
+    } else if key == numbers::INFINITY {
+        Err(Refusal::InfinityGiven)
+    } else if q.operation != 0 {
+        Err(Refusal::Busy)
     } else {
-        refused(q, Refusal::UnknownOperation)
+        Ok(Process::started_as(operation, key))
     }
 }
 
-fn start_good(h: Header, rows: u64, n: u32, q: Process, operation: u32, key: u32) -> Started
+#[tactic(auto, unfolding(tables::specs::Choice::pick, tables::specs::Choice::both))]
+fn start_good(
+    h: Header,
+    rows: u64,
+    n: u32,
+    q: Process,
+    operation: u32,
+    key: u32,
+) -> Result<Process, Refusal>
     ensures { result ≡ start_good h rows n q operation key }
 {
-    if rows < (h.processes as u64) {
-        return refused(q, Refusal::TooShort);
-    }
-    if choice::within(1, n as u64, h.processes as u64) {
-        start_known(q, operation, key)
+    if rows < u64::from(h.processes) {
+        Err(Refusal::TooShort)
+    } else if n < 1 || u32::from(h.processes) < n {
+        Err(Refusal::NoSuchProcess)
     } else {
-        refused(q, Refusal::NoSuchProcess)
+        start_known(q, operation, key)
     }
 }
 
-// A start of process n, whose record is q, beside a row of so many records.
-pub fn start(block: &[u32], rows: u64, n: u32, q: Process, operation: u32, key: u32) -> Started
+// A start of process n, whose record is q, beside a row of so many records: the record then.
+pub fn start(
+    block: &[u32],
+    rows: u64,
+    n: u32,
+    q: Process,
+    operation: u32,
+    key: u32,
+) -> Result<Process, Refusal>
     ensures { result ≡ start_of block.now rows n q operation key }
 {
-    let read = header::read_header(block);
-    match read {
-        HeaderRead::Good(h) => start_good(h, rows, n, q, operation, key),
-        HeaderRead::Refused(refusal) => refused(q, refusal),
-    }
+    let h = header::read_header(block)?;
+    start_good(h, rows, n, q, operation, key)
 }

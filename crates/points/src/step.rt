@@ -11,17 +11,17 @@ ghost use Rattle.points.specs.Parts.{Ready, step_good};
 
 use crate::search;
 use process::{Process, Stepped};
-use tables::header::{Header, HeaderRead};
+use tables::header;
+use tables::header::Header;
 use tables::numbers::Refusal;
-use tables::{choice, header};
 
 // "Each accepted step does the one row of its point."
-fn row(block: &mut [u32], h: Header, n: u32, q: Process) -> Stepped
+#[tactic(auto, using(crate::proofs::Steps::outside))]
+fn row(block: &mut [u32], h: Header, n: u32, q: Process) -> Result<Stepped, Refusal>
     requires { Ready q }
-    ensures { out result block.new ≡ row_done block.old q (row_of block.old h n q) }
+    ensures { out result block.new ≡ row_done block.old (row_of block.old h n q) }
 {
-    let point = q.point;
-    match point {
+    match q.point {
         1 => search::point_1(block, h, q),
         2 => search::point_2(block, h, q),
         3 => search::point_3(block, h, q),
@@ -36,53 +36,47 @@ fn row(block: &mut [u32], h: Header, n: u32, q: Process) -> Stepped
         12 => finish::point_12(block, h, q),
         13 => finish::point_13(block, h, q),
         14 => finish::point_14(block, h, n, q),
-        0 | 15..=4294967295 => help::damaged(q),
+        0 | 15..=4294967295 => Err(Refusal::Damaged),
     }
 }
 
 // The process record's fields, then the record that it helps: nothing is read by a number that is not sound, and a search pays for no record.
+#[tactic(auto, unfolding(tables::specs::Choice::both))]
 fn step_sound(block: &[u32], h: Header, q: Process) -> bool
     ensures { result ≡ both (process_good block.now h q) (helped_good block.now h q) }
 {
-    let fields = damage::fields::process_good(block, h, q);
-    if q.point < 6 {
-        return fields;
-    }
-    if fields {
-        damage::helped::helped_good(block, h, q)
-    } else {
-        false
-    }
+    damage::fields::process_good(block, h, q) && damage::helped::helped_good(block, h, q)
 }
 
-fn step_good(block: &mut [u32], h: Header, rows: u64, n: u32, q: Process) -> Stepped
+#[tactic(auto, using(crate::proofs::Steps::ready), unfolding(tables::specs::Choice::pick, tables::specs::Choice::both, help::specs::Touch::row_done))]
+fn step_good(
+    block: &mut [u32],
+    h: Header,
+    rows: u64,
+    n: u32,
+    q: Process,
+) -> Result<Stepped, Refusal>
     requires { header_good h ≡ true }
     ensures { out result block.new ≡ step_good block.old h rows n q }
 {
-    if rows < (h.processes as u64) {
-        return process::refused(q, Refusal::TooShort);
-    }
-    if choice::within(1, n as u64, h.processes as u64) {
-        if q.operation == 0 {
-            return process::refused(q, Refusal::Idle);
-        }
-        if step_sound(block, h, q) {
-            row(block, h, n, q)
-        } else {
-            help::damaged(q)
-        }
+    if rows < u64::from(h.processes) {
+        Err(Refusal::TooShort)
+    } else if n < 1 || u32::from(h.processes) < n {
+        Err(Refusal::NoSuchProcess)
+    } else if q.operation == 0 {
+        Err(Refusal::Idle)
+    } else if !step_sound(block, h, q) {
+        Err(Refusal::Damaged)
     } else {
-        process::refused(q, Refusal::NoSuchProcess)
+        row(block, h, n, q)
     }
 }
 
 // A step of process n, whose record is q, beside a row of so many records.
-pub fn step(block: &mut [u32], rows: u64, n: u32, q: Process) -> Stepped
+#[tactic(auto, using(crate::proofs::Steps::calls))]
+pub fn step(block: &mut [u32], rows: u64, n: u32, q: Process) -> Result<Stepped, Refusal>
     ensures { out result block.new ≡ step_of block.old rows n q }
 {
-    let read = header::read_header(block);
-    match read {
-        HeaderRead::Good(h) => step_good(block, h, rows, n, q),
-        HeaderRead::Refused(refusal) => process::refused(q, refusal),
-    }
+    let h = header::read_header(block)?;
+    step_good(block, h, rows, n, q)
 }

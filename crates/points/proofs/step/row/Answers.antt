@@ -1,7 +1,6 @@
--- The proof that `step::row` keeps its contract.
-use Rattle.points.proofs.Steps.{at_1, at_2, at_3, at_4, at_5, at_6, at_7, at_8, at_9, at_10, at_11, at_12, at_13, at_14, at_zero, at_none}
+-- The row of each point.
+use Rattle.points.proofs.Steps.{at_1, at_2, at_3, at_4, at_5, at_6, at_7, at_8, at_9, at_10, at_11, at_12, at_13, at_14}
 use Rattle.points.proofs.step.row.Goals as goal
-use Rattle.points.proofs.step.row.Goals.{in-0-1, in_default-1}
 
 pub returns-in-1 : goal.returns-in-1
 returns-in-1 c = search at_1
@@ -44,6 +43,3 @@ returns-in-13 c = search at_13
 
 pub returns-in-14 : goal.returns-in-14
 returns-in-14 c = search at_14
-
-pub returns-in-0 : goal.returns-in-0
-returns-in-0 c = elim c.in-0-1.branch [ in-0-1 w ↦ search at_zero | in_default-1 w ↦ search at_none ]

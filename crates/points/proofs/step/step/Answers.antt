@@ -1,12 +1,6 @@
--- The proof that `step::step` keeps its contract.
-use Rattle.points.proofs.Steps.{calls}
+-- A step whose header is read.
+use Rattle.points.proofs.Steps.{step_good_lem}
 use Rattle.points.proofs.step.step.Goals as goal
 
-pub step_good-requires : goal.step_good-requires
-step_good-requires c = search calls
-
-pub returns-in-Good : goal.returns-in-Good
-returns-in-Good c = search calls
-
-pub returns-in-Refused : goal.returns-in-Refused
-returns-in-Refused c = search calls
+pub returns : goal.returns
+returns c = let a = c.args in step_good_lem a.block.now a.rows a.n a.q _ c.read_header.ensures _ _ c.in_ok-h.was c.step_good.ensures
