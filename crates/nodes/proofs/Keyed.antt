@@ -179,30 +179,19 @@ module _ (b : List ℕ) (h : Header) (node count i r : ℕ) (r-is : r ≡ key_wo
       rises (keys_of b h node count) ≡ rises (drop (i + 1) (keys_of b h node count))
   rises_on next inv e q = rises_again (keys_of b h node count) count (keys_length b h node count) i inv r next (keys_at b h node count i r 0 p r-is) e p q
 
-  module _ (key : ℕ) where
-    pub greater_here : greater_at key (keys_of b h node count) ≡ i + greater_at key (drop i (keys_of b h node count)) → key < r → i ≡ greater_at key (keys_of b h node count)
-    greater_here inv q = first_here (keys_of b h node count) count (keys_length b h node count) i _ inv r (keys_at b h node count i r 0 p r-is) (lt-ltb key r q) p
+  module _ (test : ℕ → Bool) (t : Bool) (t-is : t ≡ test r) (inv : first_at test (keys_of b h node count) ≡ i + first_at test (drop i (keys_of b h node count))) where
+    pub key_passes : t ≡ true → i ≡ first_at test (keys_of b h node count)
+    key_passes e = first_here (keys_of b h node count) count (keys_length b h node count) i test inv r (keys_at b h node count i r 0 p r-is) (sym t-is ∙ e) p
 
-    pub greater_on : greater_at key (keys_of b h node count) ≡ i + greater_at key (drop i (keys_of b h node count)) → r ≤ key →
-        greater_at key (keys_of b h node count) ≡ i + 1 + greater_at key (drop (i + 1) (keys_of b h node count))
-    greater_on inv q = first_again (keys_of b h node count) count (keys_length b h node count) i _ inv r (keys_at b h node count i r 0 p r-is) (le-ltb key r q) p
-
-    pub equal_here : equal_at key (keys_of b h node count) ≡ i + equal_at key (drop i (keys_of b h node count)) → key ≡ r → i ≡ equal_at key (keys_of b h node count)
-    equal_here inv q = first_here (keys_of b h node count) count (keys_length b h node count) i _ inv r (keys_at b h node count i r 0 p r-is) (eq-eqb key r q) p
-
-    pub equal_on : equal_at key (keys_of b h node count) ≡ i + equal_at key (drop i (keys_of b h node count)) → (key ≡ r → ⊥) →
-        equal_at key (keys_of b h node count) ≡ i + 1 + equal_at key (drop (i + 1) (keys_of b h node count))
-    equal_on inv q = first_again (keys_of b h node count) count (keys_length b h node count) i _ inv r (keys_at b h node count i r 0 p r-is) (ne_eqb key r q) p
+    pub key_fails : t ≡ false → first_at test (keys_of b h node count) ≡ i + 1 + first_at test (drop (i + 1) (keys_of b h node count))
+    key_fails e = first_again (keys_of b h node count) count (keys_length b h node count) i test inv r (keys_at b h node count i r 0 p r-is) (sym t-is ∙ e) p
 
 module _ (b : List ℕ) (h : Header) (node count i : ℕ) (p : count ≤ i) where
   pub rises_end : rises (keys_of b h node count) ≡ rises (drop i (keys_of b h node count)) → true ≡ rises (keys_of b h node count)
   rises_end inv = rises_done (keys_of b h node count) count (keys_length b h node count) i inv p
 
-  pub greater_end : (key : ℕ) → greater_at key (keys_of b h node count) ≡ i + greater_at key (drop i (keys_of b h node count)) → i ≡ greater_at key (keys_of b h node count)
-  greater_end key inv = first_none (keys_of b h node count) count (keys_length b h node count) i _ inv p
-
-  pub equal_end : (key : ℕ) → equal_at key (keys_of b h node count) ≡ i + equal_at key (drop i (keys_of b h node count)) → i ≡ equal_at key (keys_of b h node count)
-  equal_end key inv = first_none (keys_of b h node count) count (keys_length b h node count) i _ inv p
+  pub keys_end : (test : ℕ → Bool) → first_at test (keys_of b h node count) ≡ i + first_at test (drop i (keys_of b h node count)) → i ≡ first_at test (keys_of b h node count)
+  keys_end test inv = first_none (keys_of b h node count) count (keys_length b h node count) i test inv p
 
 module _ (ks : List ℕ) (count i : ℕ) where
   pub leaf_key : (x : ℕ) (r : List ℕ) → i < count → x ≡ get_or ks i 0 → r ≡ key_array (x ∷ []) → r ≡ sprout_leaf ks count i

@@ -1,6 +1,6 @@
 // The keys of a node: the route of a key, a leaf's keys in order, a key put in or taken out, and the leaves of a sprout.
-ghost use Rattle.std.specs.Prelude.{◌≡◌, ◌<◌, ◌≤◌, [], ◌∷◌, get_or};
-ghost use Rattle.nodes.specs.Keys.{keys_of, greater_at, route_of, put_in, taken_out, key_array, sprout_of, sprout_leaf, equal_at};
+ghost use Rattle.std.specs.Prelude.{◌≡◌, ℕ, Bool, ◌<◌, ◌≤◌, [], ◌∷◌, get_or};
+ghost use Rattle.nodes.specs.Keys.{keys_of, first_at, greater_at, route_of, put_in, taken_out, key_array, sprout_of, sprout_leaf, equal_at};
 ghost use Rattle.nodes.specs.Keys.{put_in_word, taken_out_word};
 ghost use Rattle.nodes.specs.Keys.{rises as rises_of};
 ghost use Rattle.nodes.specs.Keys.{holds as holds_of};
@@ -24,47 +24,42 @@ fn key_or(block: &[u32], h: Header, node: u32, count: u8, i: u32, past: u32) -> 
 pub fn rises(block: &[u32], h: Header, node: u32, count: u8) -> bool
     ensures { result ≡ rises_of (keys_of block.now h node count) }
 {
-    let n = count as u32;
-    let mut i: u32 = 0;
-    while i < n {
+    for i in 0..u32::from(count) {
         let key = header::key_word(block, h, node, i + 1);
         let next = key_or(block, h, node, count, i + 1, numbers::INFINITY);
         if next <= key {
             return false;
         }
-        i += 1;
     }
     true
+}
+
+// How many keys stand before the first that passes a test.
+fn first_at<F: Fn(u32) -> bool>(block: &[u32], h: Header, node: u32, count: u8, passes: F) -> u32
+    requires { F.IsAlwaysCallable passes }
+    ensures { (test : ℕ → Bool) → ((x : ℕ) (r : Bool) → F.post passes x r → r ≡ test x) → result ≡ first_at test (keys_of block.now h node count) }
+{
+    let n = u32::from(count);
+    for i in 0..n {
+        if passes(header::key_word(block, h, node, i + 1)) {
+            return i;
+        }
+    }
+    n
 }
 
 // How many keys stand before the first greater one.
 pub fn greater_at(block: &[u32], h: Header, node: u32, count: u8, key: u32) -> u32
     ensures { result ≡ greater_at key (keys_of block.now h node count) }
 {
-    let n = count as u32;
-    let mut i: u32 = 0;
-    while i < n {
-        if key < header::key_word(block, h, node, i + 1) {
-            return i;
-        }
-        i += 1;
-    }
-    i
+    first_at(block, h, node, count, |k| key < k)
 }
 
 // How many keys stand before the first equal one.
 fn equal_at(block: &[u32], h: Header, node: u32, count: u8, key: u32) -> u32
     ensures { result ≡ equal_at key (keys_of block.now h node count) }
 {
-    let n = count as u32;
-    let mut i: u32 = 0;
-    while i < n {
-        if key == header::key_word(block, h, node, i + 1) {
-            return i;
-        }
-        i += 1;
-    }
-    i
+    first_at(block, h, node, count, |k| key == k)
 }
 
 pub fn holds(block: &[u32], h: Header, node: u32, count: u8, key: u32) -> bool
