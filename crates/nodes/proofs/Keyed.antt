@@ -1,6 +1,6 @@
 -- Laws of a node's keys, return by return and turn by turn: order, first key that passes a test, a key put in or taken out, a sprout.
-use Prim.Native.Nat.{ℕ, suc, ◌+◌, ◌-◌, ◌≤◌, ◌<◌}
-use mathlib.Core.Path.{◌≡◌, refl, sym, ap, ◌∙◌}
+use Prim.Native.Nat.{ℕ, zero, suc, ◌+◌, ◌-◌, ◌≤◌, ◌<◌}
+use mathlib.Core.Path.{◌≡◌, refl, sym, ap, subst, ◌∙◌}
 use mathlib.Core.Bool.{Bool, true, false}
 use mathlib.Core.List.{List, [], ◌∷◌, ◌++◌}
 use native.Mathlib.Omega.{arith}
@@ -8,7 +8,9 @@ use native.Mathlib.Numerals.{add-one}
 use lib.Dec.{ltb, eqb, leb-suc-suc}
 use borrow.Author.Tests.{ltb-true, ltb-false, eqb-true, eqb-false, lt-ltb, le-ltb, eq-eqb, ne_eqb}
 use lib.ListN.{length, get_or, set, take, drop, replicate, get_or-append, get_or-eq_default, drop_of_length-le}
-use lib.Seq.{get_or-drop, get_or-take, get_or_at, get_or-append-add, length-take-le}
+use lib.Seq.{drop-cons, get_or-drop, get_or-take, get_or_at, get_or-append-add, length-take-le}
+use denote.Param.Members.{Mut, Called}
+use Rattle.std.specs.Array.{IsFromFnResult, IsFromFnResultFrom}
 use Rattle.tables.specs.Choice.{pick, both, listed}
 use Rattle.tables.specs.Numbers.{infinity, key_room}
 use Rattle.tables.specs.Layout.{key_word}
@@ -148,20 +150,18 @@ module _ (ks : List ℕ) (at : ℕ) (p : at ≤ length ks) where
           ∙ get_or-drop (at + 1) ks (i - at) 0
           ∙ ap (λ (j : ℕ). get_or ks j 0) (back i at q))
 
--- the turn of a loop that fills a key array, or an array of them, element after element of what it is to be
-abbrev pub Filled : {A : Type 0} → (ℕ → A) → A → List A → ℕ → Type 0
-Filled f d o i = o ≡ take i (listed f 0 key_room) ++ drop i (replicate key_room d)
+-- an array made place by place, where a call at place i gives rule i, is a list of the rule
+module _ {F B : Type 0} (g : Mut F (ℕ × Unit {0}) B) (f : F) (ys : List B) (rule : ℕ → B) (n : ℕ) (gives : (i : ℕ) (y : B) (q : F) → i < n → Called g f (i, tt) y q → (q ≡ f) × (y ≡ rule i)) where
+  from_place : (i m : ℕ) → i + m ≡ length ys → length ys ≡ n → IsFromFnResultFrom g f ys i m → drop i ys ≡ listed rule i m
+  unfolding listed
+  from_place i zero e l r = drop_of_length-le ys {i = i} (omega arith)
+  from_place i (suc m) e l (q, y, is, call, rest) =
+      let z : (q ≡ f) × (y ≡ rule i) = gives i y q (omega arith) call in
+      let after : drop (i + 1) ys ≡ listed rule (i + 1) m = from_place (i + 1) m (omega arith) l (subst (λ (p : F). IsFromFnResultFrom g p ys (i + 1) m) z.0 rest) in
+      rw (drop-cons ys i y (omega arith), is.1 y, z.1, ← add-one i, after) refl
 
-module _ {A : Type 0} (f : ℕ → A) (d : A) (o : List A) (i : ℕ) (e : Filled f d o i) where
-  as_long : length (replicate key_room d) ≡ length (listed f 0 key_room)
-  as_long = sym (length-listed f 0 key_room)
-
-  pub array_again : (w : A) → i < key_room → w ≡ f i → Filled f d (set o i w) (i + 1)
-  array_again w p q =
-      filled_more (listed f 0 key_room) (replicate key_room d) o i w w e as_long (rw (length-listed f 0 key_room) p) (q ∙ sym (get_or-listed₀ f key_room i w p))
-
-  pub array_done : key_room ≤ i → o ≡ listed f 0 key_room
-  array_done p = filled_all (listed f 0 key_room) (replicate key_room d) o i e as_long (rw (length-listed f 0 key_room) p)
+  pub made_listed : IsFromFnResult g f ys n → ys ≡ listed rule 0 n
+  made_listed r = from_place 0 n (omega (arith, r.long)) r.long r.each
 
 pub put_word : (x : ℕ) (ks : List ℕ) (at i w : ℕ) → at ≡ greater_at x ks → w ≡ put_in_word x ks at i → w ≡ get_or (put_in x ks) i 0
 put_word x ks at i w e f = f ∙ rw e (put_in_at ks (greater_at x ks) (first_in _ ks) x i)

@@ -5,8 +5,10 @@ ghost use Rattle.nodes.specs.Keys.{put_in_word, taken_out_word};
 ghost use Rattle.nodes.specs.Keys.{rises as rises_of};
 ghost use Rattle.nodes.specs.Keys.{holds as holds_of};
 
+use std::array;
+use tables::header;
 use tables::header::Header;
-use tables::{header, numbers};
+use tables::numbers::{INFINITY, KEY_ROOM};
 
 // Key i of a node's first count keys, from 0; past them, what is given for past.
 fn key_or(block: &[u32], h: Header, node: u32, count: u8, i: u32, past: u32) -> u32
@@ -26,7 +28,7 @@ pub fn rises(block: &[u32], h: Header, node: u32, count: u8) -> bool
 {
     for i in 0..u32::from(count) {
         let key = header::key_word(block, h, node, i + 1);
-        let next = key_or(block, h, node, count, i + 1, numbers::INFINITY);
+        let next = key_or(block, h, node, count, i + 1, INFINITY);
         if next <= key {
             return false;
         }
@@ -95,17 +97,11 @@ fn put_in_word(block: &[u32], h: Header, node: u32, count: u8, key: u32, at: u32
 }
 
 // A leaf's keys with a key put in before the first greater one.
-pub fn with_key(block: &[u32], h: Header, node: u32, count: u8, key: u32) -> [u32; 8]
+pub fn with_key(block: &[u32], h: Header, node: u32, count: u8, key: u32) -> [u32; KEY_ROOM]
     ensures { result ≡ key_array (put_in key (keys_of block.now h node count)) }
 {
     let at = greater_at(block, h, node, count, key);
-    let mut keys = [0u32; 8];
-    let mut i: usize = 0;
-    while i < 8 {
-        keys[i] = put_in_word(block, h, node, count, key, at, i as u32);
-        i += 1;
-    }
-    keys
+    array::from_fn(|i| put_in_word(block, h, node, count, key, at, i as u32))
 }
 
 // Key i of the keys with one taken out, where at of them stand before it.
@@ -121,58 +117,45 @@ fn taken_out_word(block: &[u32], h: Header, node: u32, count: u8, at: u32, i: u3
 }
 
 // A leaf's keys with a key taken out.
-pub fn without_key(block: &[u32], h: Header, node: u32, count: u8, key: u32) -> [u32; 8]
+pub fn without_key(block: &[u32], h: Header, node: u32, count: u8, key: u32) -> [u32; KEY_ROOM]
     ensures { result ≡ key_array (taken_out key (keys_of block.now h node count)) }
 {
     let at = equal_at(block, h, node, count, key);
-    let mut keys = [0u32; 8];
-    let mut i: usize = 0;
-    while i < 8 {
-        keys[i] = taken_out_word(block, h, node, count, at, i as u32);
-        i += 1;
-    }
-    keys
+    array::from_fn(|i| taken_out_word(block, h, node, count, at, i as u32))
 }
 
 // A key array of one key.
-pub fn one_key(key: u32) -> [u32; 8]
+pub fn one_key(key: u32) -> [u32; KEY_ROOM]
     ensures { result ≡ key_array (key ∷ []) }
 {
-    let mut keys = [0u32; 8];
-    keys[0] = key;
-    keys
+    [key, 0, 0, 0, 0, 0, 0, 0]
 }
 
 // A key of a key array; past its end there is none.
-pub fn key_in(keys: [u32; 8], i: u32) -> u32
+pub fn key_in(keys: [u32; KEY_ROOM], i: u32) -> u32
     ensures { result ≡ get_or keys i 0 }
 {
-    let at = i as usize;
-    if at < numbers::KEY_ROOM { keys[at] } else { 0 }
+    keys.get(i as usize).copied().unwrap_or(0)
 }
 
 // Leaf i, from 0, of a sprout; past its leaves, no keys.
-fn sprout_leaf(keys: [u32; 8], count: u8, i: u32) -> [u32; 8]
+fn sprout_leaf(keys: [u32; KEY_ROOM], count: u8, i: usize) -> [u32; KEY_ROOM]
     ensures { result ≡ sprout_leaf keys count i }
 {
-    if i < (count as u32) {
-        let key = key_in(keys, i);
-        one_key(key)
+    if i < usize::from(count) {
+        one_key(keys.get(i).copied().unwrap_or(0))
     } else {
-        [0u32; 8]
+        [0; KEY_ROOM]
     }
 }
 
 // "k new leaves of one key each, ascending": the leaves' key arrays, before their words go into the node table.
-pub fn sprout(keys: [u32; 8], count: u8) -> [[u32; 8]; 8]
+pub fn sprout(keys: [u32; KEY_ROOM], count: u8) -> [[u32; KEY_ROOM]; KEY_ROOM]
     ensures { result ≡ sprout_of keys count }
 {
-    let mut leaves = [[0u32; 8]; 8];
-    let mut i: usize = 0;
-    while i < 8 {
-        let leaf = sprout_leaf(keys, count, i as u32);
-        leaves[i] = leaf;
-        i += 1;
-    }
-    leaves
+    array::from_fn(|i|
+        ensures { result ≡ sprout_leaf keys count i }
+    {
+        sprout_leaf(keys, count, i)
+    })
 }

@@ -1,9 +1,10 @@
 -- The proof that `keys::sprout_leaf` keeps its contract.
+use Rattle.std.proofs.Common.{rules}
 use Rattle.nodes.proofs.Keyed.{leaves}
 use Rattle.nodes.proofs.keys.sprout_leaf.Goals as goal
 
-pub returns-then-i-count : goal.returns-then-i-count
-returns-then-i-count c = search leaves
+pub returns-then-i-from : goal.returns-then-i-from
+returns-then-i-from c = search (rules, leaves)
 
-pub returns-else-i-count : goal.returns-else-i-count
-returns-else-i-count c = search leaves
+pub returns-else-i-from : goal.returns-else-i-from
+returns-else-i-from c = search (rules, leaves)
