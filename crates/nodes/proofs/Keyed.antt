@@ -1,22 +1,24 @@
 -- Laws of a node's keys, return by return and turn by turn: order, first key that passes a test, a key put in or taken out, a sprout.
 use Prim.Native.Nat.{ℕ, zero, suc, ◌+◌, ◌-◌, ◌≤◌, ◌<◌}
 use mathlib.Core.Path.{◌≡◌, refl, sym, ap, subst, ◌∙◌}
-use mathlib.Core.Bool.{Bool, true, false}
+use mathlib.Core.Bool.{Bool, true, false, ◌&&◌}
 use mathlib.Core.List.{List, [], ◌∷◌, ◌++◌}
 use native.Mathlib.Omega.{arith}
 use native.Mathlib.Numerals.{add-one}
+use native.Mathlib.Nat.{add-zero}
 use lib.Dec.{ltb, eqb, leb-suc-suc}
 use borrow.Author.Tests.{ltb-true, ltb-false, eqb-true, eqb-false, lt-ltb, le-ltb, eq-eqb, ne_eqb}
 use lib.ListN.{length, get_or, set, take, drop, replicate, get_or-append, get_or-eq_default, drop_of_length-le}
 use lib.Seq.{drop-cons, get_or-drop, get_or-take, get_or_at, get_or-append-add, length-take-le}
 use denote.Param.Members.{Mut, Called}
+use Rattle.std.specs.List.{list_all, range_with_len}
 use Rattle.std.specs.Array.{IsFromFnResult, IsFromFnResultFrom}
 use Rattle.tables.specs.Choice.{pick, both, listed}
 use Rattle.tables.specs.Numbers.{infinity, key_room}
 use Rattle.tables.specs.Layout.{key_word}
 use Rattle.nodes.specs.Keys.{keys_of, rises, holds, first_at, greater_at, equal_at, route_of, put_in, taken_out, put_in_word, taken_out_word, key_array, sprout_leaf}
 use Rattle.tables.specs.declared.header.Header.{Header}
-use Rattle.tables.proofs.Lists.{from_here, length-listed, get_or-listed, get_or-listed₀, filled_more, filled_all}
+use Rattle.tables.proofs.Lists.{from_here, length-listed, get_or-listed, moved}
 
 module _ (b : List ℕ) (h : Header) (node count : ℕ) where
   pub keys_length : length (keys_of b h node count) ≡ count
@@ -30,25 +32,32 @@ module _ (b : List ℕ) (h : Header) (node count : ℕ) where
 
 pub ruleset keyed = (keys_at, keys_past)
 
-rises_left : (ks : List ℕ) (i : ℕ) → i < length ks → rises (drop i ks) ≡ both (ltb (get_or ks i 0) (get_or ks (i + 1) infinity)) (rises (drop (i + 1) ks))
-unfolding rises
-rises_left ks i p = ap rises (from_here ks i p) ∙ ap (λ (x : ℕ). both (ltb (get_or ks i 0) x) (rises (drop (i + 1) ks))) (get_or-drop (i + 1) ks 0 infinity ∙ ap (λ (j : ℕ). get_or ks j infinity) (let z : i + 1 + 0 ≡ i + 1 = omega arith in z))
+-- a list's elements from place a on, by its rule
+next_key : (f : ℕ → ℕ) (i a m n d : ℕ) → m ≡ a + n → get_or (listed f i m) a d ≡ get_or (listed f (i + a) n) 0 d
+unfolding listed
+next_key f i zero m n d e = let z : m ≡ n = omega arith in rw (z, add-zero i) refl
+next_key f i (suc a) zero n d e = absurd (omega arith)
+next_key f i (suc a) (suc m) n d e = next_key f (i + 1) a m n d (omega arith) ∙ ap (λ (j : ℕ). get_or (listed f j n) 0 d) (moved i a)
+
+and_both : (s t u v : Bool) → s ≡ t → u ≡ v → (s && u) ≡ both t v
+unfolding both
+and_both true t u v e f = rw (← e) f
+and_both false t u v e f = rw (← e) refl
+
+-- each key below the next, place by place
+rises_from : (f : ℕ → ℕ) (m a n : ℕ) → m ≡ a + n → list_all (λ i. ltb (f (i + 1)) (get_or (listed f 1 m) (i + 1) infinity)) (range_with_len a n) ≡ rises (listed f (a + 1) n)
+unfolding listed rises
+rises_from f m a zero e = refl
+rises_from f m a (suc n) e =
+    let z : 1 + (a + 1) ≡ a + 1 + 1 = omega arith in
+    and_both _ _ _ _ (ap (λ (x : ℕ). ltb (f (a + 1)) x) (next_key f 1 (a + 1) m n infinity (omega arith) ∙ ap (λ (j : ℕ). get_or (listed f j n) 0 infinity) z))
+    (rises_from f m (a + 1) n (omega arith))
+
+pub rises_all : (b : List ℕ) (h : Header) (node count : ℕ) → list_all (λ i. ltb (key_word b h node (i + 1)) (get_or (keys_of b h node count) (i + 1) infinity)) (range_with_len 0 count) ≡ rises (keys_of b h node count)
+rises_all b h node count = rises_from (λ i. key_word b h node i) count 0 count (omega arith) ∙ (let z : 0 + 1 ≡ 1 = omega arith in rw z refl)
 
 -- the loop over a list ks of n keys, that has passed i of them
 module _ (ks : List ℕ) (n : ℕ) (size : length ks ≡ n) (i : ℕ) where
-  module _ (inv : rises ks ≡ rises (drop i ks)) (key next : ℕ) (k-is : key ≡ get_or ks i 0) (n-is : next ≡ get_or ks (i + 1) infinity) where
-    pub rises_not : i < n → next ≤ key → false ≡ rises ks
-    unfolding both
-    rises_not p q = let z : ltb key next ≡ false = le-ltb key next q in sym (inv ∙ rises_left ks i (omega arith) ∙ rw (← k-is, ← n-is, z) refl)
-
-    pub rises_again : i < n → key < next → rises ks ≡ rises (drop (i + 1) ks)
-    unfolding both
-    rises_again p q = let z : ltb key next ≡ true = lt-ltb key next q in inv ∙ rises_left ks i (omega arith) ∙ rw (← k-is, ← n-is, z) refl
-
-  pub rises_done : rises ks ≡ rises (drop i ks) → n ≤ i → true ≡ rises ks
-  unfolding rises
-  rises_done inv p = sym (inv ∙ rw (drop_of_length-le ks {i = i} (omega arith)) refl)
-
   module _ (test : ℕ → Bool) (inv : first_at test ks ≡ i + first_at test (drop i ks)) where
     pub first_here : (key : ℕ) → key ≡ get_or ks i 0 → test key ≡ true → i < n → i ≡ first_at test ks
     unfolding first_at pick
@@ -171,14 +180,6 @@ taken_word x ks at i w e f = f ∙ rw e (taken_out_at ks (equal_at x ks) (first_
 
 -- the same loops, over the keys of a node as its words give them
 module _ (b : List ℕ) (h : Header) (node count i r : ℕ) (r-is : r ≡ key_word b h node (i + 1)) (p : i < count) where
-  pub rises_false : (next : ℕ) → rises (keys_of b h node count) ≡ rises (drop i (keys_of b h node count)) → next ≡ get_or (keys_of b h node count) (i + 1) infinity → next ≤ r →
-      false ≡ rises (keys_of b h node count)
-  rises_false next inv e q = rises_not (keys_of b h node count) count (keys_length b h node count) i inv r next (keys_at b h node count i r 0 p r-is) e p q
-
-  pub rises_on : (next : ℕ) → rises (keys_of b h node count) ≡ rises (drop i (keys_of b h node count)) → next ≡ get_or (keys_of b h node count) (i + 1) infinity → r < next →
-      rises (keys_of b h node count) ≡ rises (drop (i + 1) (keys_of b h node count))
-  rises_on next inv e q = rises_again (keys_of b h node count) count (keys_length b h node count) i inv r next (keys_at b h node count i r 0 p r-is) e p q
-
   module _ (test : ℕ → Bool) (t : Bool) (t-is : t ≡ test r) (inv : first_at test (keys_of b h node count) ≡ i + first_at test (drop i (keys_of b h node count))) where
     pub key_passes : t ≡ true → i ≡ first_at test (keys_of b h node count)
     key_passes e = first_here (keys_of b h node count) count (keys_length b h node count) i test inv r (keys_at b h node count i r 0 p r-is) (sym t-is ∙ e) p
@@ -187,9 +188,6 @@ module _ (b : List ℕ) (h : Header) (node count i r : ℕ) (r-is : r ≡ key_wo
     key_fails e = first_again (keys_of b h node count) count (keys_length b h node count) i test inv r (keys_at b h node count i r 0 p r-is) (sym t-is ∙ e) p
 
 module _ (b : List ℕ) (h : Header) (node count i : ℕ) (p : count ≤ i) where
-  pub rises_end : rises (keys_of b h node count) ≡ rises (drop i (keys_of b h node count)) → true ≡ rises (keys_of b h node count)
-  rises_end inv = rises_done (keys_of b h node count) count (keys_length b h node count) i inv p
-
   pub keys_end : (test : ℕ → Bool) → first_at test (keys_of b h node count) ≡ i + first_at test (drop i (keys_of b h node count)) → i ≡ first_at test (keys_of b h node count)
   keys_end test inv = first_none (keys_of b h node count) count (keys_length b h node count) i test inv p
 

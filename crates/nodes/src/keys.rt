@@ -26,14 +26,9 @@ fn key_or(block: &[u32], h: Header, node: u32, count: u8, i: u32, past: u32) -> 
 pub fn rises(block: &[u32], h: Header, node: u32, count: u8) -> bool
     ensures { result ≡ rises_of (keys_of block.now h node count) }
 {
-    for i in 0..u32::from(count) {
-        let key = header::key_word(block, h, node, i + 1);
-        let next = key_or(block, h, node, count, i + 1, INFINITY);
-        if next <= key {
-            return false;
-        }
-    }
-    true
+    (0..u32::from(count)).all(|i| {
+        header::key_word(block, h, node, i + 1) < key_or(block, h, node, count, i + 1, INFINITY)
+    })
 }
 
 // How many keys stand before the first that passes a test.
