@@ -11,7 +11,10 @@ use borrow.Author.Tests.{ltb-true, ltb-false, eqb-true, eqb-false, lt-ltb, le-lt
 use lib.ListN.{length, get_or, set, take, drop, replicate, get_or-append, get_or-eq_default, drop_of_length-le}
 use lib.Seq.{drop-cons, get_or-drop, get_or-take, get_or_at, get_or-append-add, length-take-le}
 use denote.Param.Members.{Mut, Called}
-use Rattle.std.specs.List.{list_all, range_with_len}
+use Rattle.std.specs.List.{list_all, find, range_with_len}
+use Rattle.std.specs.Option.{unwrap_or, option_map}
+use Rattle.std.proofs.Common.{Option, Some, cond}
+use Rattle.std.proofs.lemmas.Iterator.Adapters.{option_map_id}
 use Rattle.std.specs.Array.{IsFromFnResult, IsFromFnResultFrom}
 use Rattle.tables.specs.Choice.{pick, both, listed}
 use Rattle.tables.specs.Numbers.{infinity, key_room}
@@ -56,23 +59,24 @@ rises_from f m a (suc n) e =
 pub rises_all : (b : List ℕ) (h : Header) (node count : ℕ) → list_all (λ i. ltb (key_word b h node (i + 1)) (get_or (keys_of b h node count) (i + 1) infinity)) (range_with_len 0 count) ≡ rises (keys_of b h node count)
 rises_all b h node count = rises_from (λ i. key_word b h node i) count 0 count (omega arith) ∙ (let z : 0 + 1 ≡ 1 = omega arith in rw z refl)
 
--- the loop over a list ks of n keys, that has passed i of them
-module _ (ks : List ℕ) (n : ℕ) (size : length ks ≡ n) (i : ℕ) where
-  module _ (test : ℕ → Bool) (inv : first_at test ks ≡ i + first_at test (drop i ks)) where
-    pub first_here : (key : ℕ) → key ≡ get_or ks i 0 → test key ≡ true → i < n → i ≡ first_at test ks
-    unfolding first_at pick
-    first_here key e t p = sym (inv ∙ rw (from_here ks i (omega arith), ← e, t) (let z : i + 0 ≡ i = omega arith in z))
+-- the first place whose key passes, or where none does, the number of keys
+first_found : (test : ℕ → Bool) (f : ℕ → ℕ) (a n m : ℕ) → m ≡ a + n → unwrap_or (find (λ i. test (f (i + 1))) (range_with_len a n)) m ≡ a + first_at test (listed f (a + 1) n)
+unfolding listed first_at pick
+first_found test f a zero m e = e
+first_found test f a (suc n) m e = go (test (f (a + 1))) (first_found test f (a + 1) n m (omega arith))
+  where
+    go : (t : Bool) → unwrap_or (find (λ i. test (f (i + 1))) (range_with_len (a + 1) n)) m ≡ a + 1 + first_at test (listed f (a + 1 + 1) n) →
+        unwrap_or (cond t (Some a) (find (λ i. test (f (i + 1))) (range_with_len (a + 1) n))) m ≡ a + pick t 0 (first_at test (listed f (a + 1 + 1) n) + 1)
+    go true z = sym (add-zero a)
+    go false z = z ∙ (let y : (j : ℕ) → a + 1 + j ≡ a + (j + 1) = λ j. omega arith in y _)
 
-    pub first_again : (key : ℕ) → key ≡ get_or ks i 0 → test key ≡ false → i < n → first_at test ks ≡ i + 1 + first_at test (drop (i + 1) ks)
-    unfolding first_at pick
-    first_again key e t p = inv ∙ rw (from_here ks i (omega arith), ← e, t) (let z : (m : ℕ) → i + (m + 1) ≡ i + 1 + m = λ m. omega arith in z _)
-
-    pub first_none : n ≤ i → i ≡ first_at test ks
-    unfolding first_at
-    first_none p = sym (inv ∙ rw (drop_of_length-le ks {i = i} (omega arith)) (let z : i + 0 ≡ i = omega arith in z))
-
-pub first_start : (test : ℕ → Bool) (ks : List ℕ) → first_at test ks ≡ 0 + first_at test (drop 0 ks)
-first_start test ks = omega arith
+pub keys_first : (b : List ℕ) (h : Header) (node count : ℕ) (test : ℕ → Bool) (r : Option ℕ) (n m : ℕ) → option_map (λ x. x) r ≡ find (λ i. test (key_word b h node (i + 1))) (range_with_len 0 count) → n ≡ count → m ≡ unwrap_or r n →
+    m ≡ first_at test (keys_of b h node count)
+keys_first b h node count test r n m e p q =
+    q
+    ∙ ap (λ (o : Option ℕ). unwrap_or o n) (sym (option_map_id r) ∙ e)
+    ∙ first_found test (λ i. key_word b h node i) 0 count n (omega arith)
+    ∙ (let z : 0 + 1 ≡ 1 = omega arith in let y : (j : ℕ) → 0 + j ≡ j = λ j. omega arith in rw z (y _))
 
 -- the first key equal to x lies in the list exactly when the list holds x
 pub holds_is : (x : ℕ) (ks : List ℕ) → ltb (equal_at x ks) (length ks) ≡ holds x ks
@@ -177,19 +181,6 @@ put_word x ks at i w e f = f ∙ rw e (put_in_at ks (greater_at x ks) (first_in 
 
 pub taken_word : (x : ℕ) (ks : List ℕ) (at i w : ℕ) → at ≡ equal_at x ks → w ≡ taken_out_word ks at i → w ≡ get_or (taken_out x ks) i 0
 taken_word x ks at i w e f = f ∙ rw e (taken_out_at ks (equal_at x ks) (first_in _ ks) i)
-
--- the same loops, over the keys of a node as its words give them
-module _ (b : List ℕ) (h : Header) (node count i r : ℕ) (r-is : r ≡ key_word b h node (i + 1)) (p : i < count) where
-  module _ (test : ℕ → Bool) (t : Bool) (t-is : t ≡ test r) (inv : first_at test (keys_of b h node count) ≡ i + first_at test (drop i (keys_of b h node count))) where
-    pub key_passes : t ≡ true → i ≡ first_at test (keys_of b h node count)
-    key_passes e = first_here (keys_of b h node count) count (keys_length b h node count) i test inv r (keys_at b h node count i r 0 p r-is) (sym t-is ∙ e) p
-
-    pub key_fails : t ≡ false → first_at test (keys_of b h node count) ≡ i + 1 + first_at test (drop (i + 1) (keys_of b h node count))
-    key_fails e = first_again (keys_of b h node count) count (keys_length b h node count) i test inv r (keys_at b h node count i r 0 p r-is) (sym t-is ∙ e) p
-
-module _ (b : List ℕ) (h : Header) (node count i : ℕ) (p : count ≤ i) where
-  pub keys_end : (test : ℕ → Bool) → first_at test (keys_of b h node count) ≡ i + first_at test (drop i (keys_of b h node count)) → i ≡ first_at test (keys_of b h node count)
-  keys_end test inv = first_none (keys_of b h node count) count (keys_length b h node count) i test inv p
 
 module _ (ks : List ℕ) (count i : ℕ) where
   pub leaf_key : (x : ℕ) (r : List ℕ) → i < count → x ≡ get_or ks i 0 → r ≡ key_array (x ∷ []) → r ≡ sprout_leaf ks count i

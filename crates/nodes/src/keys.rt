@@ -37,12 +37,7 @@ fn first_at<F: Fn(u32) -> bool>(block: &[u32], h: Header, node: u32, count: u8, 
     ensures { (test : ℕ → Bool) → ((x : ℕ) (r : Bool) → F.post passes x r → r ≡ test x) → result ≡ first_at test (keys_of block.now h node count) }
 {
     let n = u32::from(count);
-    for i in 0..n {
-        if passes(header::key_word(block, h, node, i + 1)) {
-            return i;
-        }
-    }
-    n
+    (0..n).find(|i| passes(header::key_word(block, h, node, *i + 1))).unwrap_or(n)
 }
 
 // How many keys stand before the first greater one.

@@ -1,16 +1,13 @@
 -- The proof that `keys::first_at` keeps its contract.
-use Rattle.std.proofs.Common.{rules}
-use Rattle.nodes.proofs.Keyed.{key_passes, key_fails, keys_end, first_start}
+use Rattle.std.proofs.Common.{◌+◌, rules, tests, arith}
+use Rattle.std.proofs.lemmas.Iterator.{YieldsList-from_range}
+use Rattle.std.proofs.lemmas.Iterator.Search.{find_from_yields_List}
+use Rattle.tables.specs.Layout.{key_word}
+use Rattle.nodes.proofs.Keyed.{keys_first}
 use Rattle.nodes.proofs.keys.first_at.Goals as goal
 
-pub loop-i-init : goal.loop-i-init
-loop-i-init g c = λ test is. first_start test _
-
-pub returns-then-passes : goal.returns-then-passes
-returns-then-passes g c = λ test is. search (rules, key_passes, c.loop-i.invariant test is, is _ _ c.passes.ensures)
-
-pub loop-i-preserved : goal.loop-i-preserved
-loop-i-preserved g c = λ test is. search (rules, key_fails, c.loop-i.invariant test is, is _ _ c.passes.ensures)
-
 pub returns : goal.returns
-returns g c = λ test is. search (rules, keys_end, c.loop-i.invariant test is)
+returns g c = λ test is.
+    keys_first c.args.block.now c.args.h c.args.node c.args.count test _ _ _
+    (find_from_yields_List (λ i. test (key_word c.args.block.now c.args.h c.args.node (i + 1))) _ _ c.find.result c.find.ensures.ran (YieldsList-from_range 0 c.args.count c.args.count (cc) (omega arith)) (λ x b q k. search (rules, tests, is)))
+    c.from-n.ensures c.unwrap_or.ensures
