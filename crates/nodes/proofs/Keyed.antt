@@ -91,8 +91,8 @@ holds_is x (y ∷ ys) = go (eqb x y) (holds_is x ys)
     go true e = lt-ltb 0 (suc (length ys)) (omega arith)
     go false e = up (equal_at x ys) ∙ e
 
-pub holds_by : (b : List ℕ) (h : Header) (node count x m : ℕ) → m ≡ equal_at x (keys_of b h node count) → ltb m count ≡ holds x (keys_of b h node count)
-holds_by b h node count x m e = of_length (keys_of b h node count) (keys_length b h node count) e
+pub holds_by : (b : List ℕ) (h : Header) (node count x m n : ℕ) → m ≡ equal_at x (keys_of b h node count) → n ≡ count → ltb m n ≡ holds x (keys_of b h node count)
+holds_by b h node count x m n e l = rw l (of_length (keys_of b h node count) (keys_length b h node count) e)
   where
     of_length : (ks : List ℕ) → length ks ≡ count → m ≡ equal_at x ks → ltb m count ≡ holds x ks
     of_length ks n e = rw (e, ← n) (holds_is x ks)

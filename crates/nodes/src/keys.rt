@@ -11,11 +11,12 @@ use tables::header::Header;
 use tables::numbers::{INFINITY, KEY_ROOM};
 
 // Key i of a node's first count keys, from 0; past them, what is given for past.
+#[tactic(auto, using(crate::proofs::Keyed::keys_at, crate::proofs::Keyed::keys_past))]
 fn key_or(block: &[u32], h: Header, node: u32, count: u8, i: u32, past: u32) -> u32
     requires { i ≤ 255 }
     ensures { result ≡ get_or (keys_of block.now h node count) i past }
 {
-    if i < (count as u32) {
+    if i < u32::from(count) {
         header::key_word(block, h, node, i + 1)
     } else {
         past
@@ -54,22 +55,18 @@ fn equal_at(block: &[u32], h: Header, node: u32, count: u8, key: u32) -> u32
     first_at(block, h, node, count, |k| key == k)
 }
 
+#[tactic(auto, using(crate::proofs::Keyed::holds_by))]
 pub fn holds(block: &[u32], h: Header, node: u32, count: u8, key: u32) -> bool
     ensures { result ≡ holds_of key (keys_of block.now h node count) }
 {
-    equal_at(block, h, node, count, key) < (count as u32)
+    equal_at(block, h, node, count, key) < u32::from(count)
 }
 
 // The child of a node for a key: the first i with the key below key i, else k.
 pub fn route(block: &[u32], h: Header, node: u32, key: u32) -> u32
     ensures { result ≡ route_of block.now h node key }
 {
-    let k = h.k;
-    if k == 0 {
-        return 1;
-    }
-    let before = greater_at(block, h, node, k - 1, key);
-    before + 1
+    greater_at(block, h, node, h.k.saturating_sub(1), key) + 1
 }
 
 // Key i of the keys with a key put in, where at of them stand before it.
