@@ -7,8 +7,8 @@ use native.Mathlib.Omega.{arith}
 use native.Mathlib.Numerals.{add-one}
 use native.Mathlib.Nat.{add-zero}
 use lib.Dec.{ltb, eqb, leb-suc-suc}
-use borrow.Author.Tests.{ltb-true, ltb-false, eqb-true, eqb-false, lt-ltb, le-ltb, eq-eqb, ne_eqb}
-use lib.ListN.{length, get_or, set, take, drop, replicate, get_or-append, get_or-eq_default, drop_of_length-le}
+use borrow.Author.Tests.{ltb-true, ltb-false, eqb-true, eqb-false, lt-ltb}
+use lib.ListN.{length, get_or, take, drop, get_or-append, get_or-eq_default, drop_of_length-le}
 use lib.Seq.{drop-cons, get_or-drop, get_or-take, get_or_at, get_or-append-add, length-take-le}
 use denote.Param.Members.{Mut, Called}
 use Rattle.std.specs.List.{list_all, find, range_with_len}
@@ -17,11 +17,11 @@ use Rattle.std.proofs.Common.{Option, Some, cond}
 use Rattle.std.proofs.lemmas.Iterator.Adapters.{option_map_id}
 use Rattle.std.specs.Array.{IsFromFnResult, IsFromFnResultFrom}
 use Rattle.tables.specs.Choice.{pick, both, listed}
-use Rattle.tables.specs.Numbers.{infinity, key_room}
+use Rattle.tables.specs.Numbers.{infinity}
 use Rattle.tables.specs.Layout.{key_word}
-use Rattle.nodes.specs.Keys.{keys_of, rises, holds, first_at, greater_at, equal_at, route_of, put_in, taken_out, put_in_word, taken_out_word, key_array, sprout_leaf}
+use Rattle.nodes.specs.Keys.{keys_of, rises, holds, first_at, greater_at, equal_at, put_in, taken_out, put_in_word, taken_out_word}
 use Rattle.tables.specs.declared.header.Header.{Header}
-use Rattle.tables.proofs.Lists.{from_here, length-listed, get_or-listed, moved}
+use Rattle.tables.proofs.Lists.{length-listed, get_or-listed, moved}
 
 module _ (b : List ℕ) (h : Header) (node count : ℕ) where
   pub keys_length : length (keys_of b h node count) ≡ count
@@ -32,8 +32,6 @@ module _ (b : List ℕ) (h : Header) (node count : ℕ) where
 
   pub keys_past : (i past : ℕ) → count ≤ i → past ≡ get_or (keys_of b h node count) i past
   keys_past i past p = sym (get_or-eq_default (keys_of b h node count) past (rw keys_length p))
-
-pub ruleset keyed = (keys_at, keys_past)
 
 -- a list's elements from place a on, by its rule
 next_key : (f : ℕ → ℕ) (i a m n d : ℕ) → m ≡ a + n → get_or (listed f i m) a d ≡ get_or (listed f (i + a) n) 0 d
@@ -109,13 +107,6 @@ first_in test (y ∷ ys) = go (test y) (first_in test ys)
 pub first_of : (test : ℕ → Bool) (f : ℕ → ℕ) (i n r : ℕ) → r ≡ first_at test (listed f i n) → r ≤ n
 first_of test f i n r e = rw e (rw (length-listed f i n) at (first_in test (listed f i n)))
 
-pub route_none : (b : List ℕ) (h : Header) (node x : ℕ) → h.k ≡ 0 → 1 ≡ route_of b h node x
-unfolding listed first_at
-route_none b h node x e = rw e refl
-
-pub route_is : (b : List ℕ) (h : Header) (node x m : ℕ) → m ≡ greater_at x (keys_of b h node (h.k - 1)) → m + 1 ≡ route_of b h node x
-route_is b h node x m e = ap (λ (i : ℕ). i + 1) e
-
 -- what stands at i, before and behind a place at which a list is cut
 module _ (ks : List ℕ) (at : ℕ) (p : at ≤ length ks) where
   before_cut : (rest : List ℕ) (i : ℕ) → i < at → get_or (take at ks ++ rest) i 0 ≡ get_or ks i 0
@@ -181,14 +172,3 @@ put_word x ks at i w e f = f ∙ rw e (put_in_at ks (greater_at x ks) (first_in 
 
 pub taken_word : (x : ℕ) (ks : List ℕ) (at i w : ℕ) → at ≡ equal_at x ks → w ≡ taken_out_word ks at i → w ≡ get_or (taken_out x ks) i 0
 taken_word x ks at i w e f = f ∙ rw e (taken_out_at ks (equal_at x ks) (first_in _ ks) i)
-
-module _ (ks : List ℕ) (count i : ℕ) where
-  pub leaf_key : (x : ℕ) (r : List ℕ) → i < count → x ≡ get_or ks i 0 → r ≡ key_array (x ∷ []) → r ≡ sprout_leaf ks count i
-  unfolding pick
-  leaf_key x r p e f = cc (lt-ltb i count p)
-
-  pub leaf_none : count ≤ i → replicate 8 0 ≡ sprout_leaf ks count i
-  unfolding pick listed
-  leaf_none p = cc (le-ltb i count p)
-
-pub ruleset leaves = (leaf_key, leaf_none)

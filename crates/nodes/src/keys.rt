@@ -38,7 +38,9 @@ fn first_at<F: Fn(u32) -> bool>(block: &[u32], h: Header, node: u32, count: u8, 
     ensures { (test : ℕ → Bool) → ((x : ℕ) (r : Bool) → F.post passes x r → r ≡ test x) → result ≡ first_at test (keys_of block.now h node count) }
 {
     let n = u32::from(count);
-    (0..n).find(|i| passes(header::key_word(block, h, node, *i + 1))).unwrap_or(n)
+    (0..n)
+        .find(|i| passes(header::key_word(block, h, node, *i + 1)))
+        .unwrap_or(n)
 }
 
 // How many keys stand before the first greater one.
@@ -70,6 +72,7 @@ pub fn route(block: &[u32], h: Header, node: u32, key: u32) -> u32
 }
 
 // Key i of the keys with a key put in, where at of them stand before it.
+#[tactic(auto, unfolding(tables::specs::Choice::pick))]
 fn put_in_word(block: &[u32], h: Header, node: u32, count: u8, key: u32, at: u32, i: u32) -> u32
     requires { i < 8 }
     ensures { result ≡ put_in_word key (keys_of block.now h node count) at i }
@@ -92,6 +95,7 @@ pub fn with_key(block: &[u32], h: Header, node: u32, count: u8, key: u32) -> [u3
 }
 
 // Key i of the keys with one taken out, where at of them stand before it.
+#[tactic(auto, unfolding(tables::specs::Choice::pick))]
 fn taken_out_word(block: &[u32], h: Header, node: u32, count: u8, at: u32, i: u32) -> u32
     requires { i < 8 }
     ensures { result ≡ taken_out_word (keys_of block.now h node count) at i }
@@ -112,6 +116,7 @@ pub fn without_key(block: &[u32], h: Header, node: u32, count: u8, key: u32) -> 
 }
 
 // A key array of one key.
+#[tactic(auto, unfolding(tables::specs::Choice::listed))]
 pub fn one_key(key: u32) -> [u32; KEY_ROOM]
     ensures { result ≡ key_array (key ∷ []) }
 {
@@ -126,6 +131,7 @@ pub fn key_in(keys: [u32; KEY_ROOM], i: u32) -> u32
 }
 
 // Leaf i, from 0, of a sprout; past its leaves, no keys.
+#[tactic(auto, unfolding(tables::specs::Choice::pick, tables::specs::Choice::listed))]
 fn sprout_leaf(keys: [u32; KEY_ROOM], count: u8, i: usize) -> [u32; KEY_ROOM]
     ensures { result ≡ sprout_leaf keys count i }
 {
@@ -140,9 +146,9 @@ fn sprout_leaf(keys: [u32; KEY_ROOM], count: u8, i: usize) -> [u32; KEY_ROOM]
 pub fn sprout(keys: [u32; KEY_ROOM], count: u8) -> [[u32; KEY_ROOM]; KEY_ROOM]
     ensures { result ≡ sprout_of keys count }
 {
-    array::from_fn(|i|
-        ensures { result ≡ sprout_leaf keys count i }
-    {
-        sprout_leaf(keys, count, i)
-    })
+    array::from_fn(
+        |i|
+            ensures { result ≡ sprout_leaf keys count i }
+        { sprout_leaf(keys, count, i) },
+    )
 }
