@@ -13,7 +13,6 @@ use tables::numbers::{INFINITY, KEY_ROOM};
 // Key i of a node's first count keys, from 0; past them, what is given for past.
 #[tactic(auto, using(crate::proofs::Keyed::keys_at, crate::proofs::Keyed::keys_past))]
 fn key_or(block: &[u32], h: Header, node: u32, count: u8, i: u32, past: u32) -> u32
-    requires { i ≤ 255 }
     ensures { result ≡ get_or (keys_of block.now h node count) i past }
 {
     if i < u32::from(count) {
@@ -74,7 +73,7 @@ pub fn route(block: &[u32], h: Header, node: u32, key: u32) -> u32
 // Key i of the keys with a key put in, where at of them stand before it.
 #[tactic(auto, unfolding(tables::specs::Choice::pick))]
 fn put_in_word(block: &[u32], h: Header, node: u32, count: u8, key: u32, at: u32, i: u32) -> u32
-    requires { i < 8 }
+    requires { i < KEY_ROOM }
     ensures { result ≡ put_in_word key (keys_of block.now h node count) at i }
 {
     if i < at {
@@ -97,7 +96,7 @@ pub fn with_key(block: &[u32], h: Header, node: u32, count: u8, key: u32) -> [u3
 // Key i of the keys with one taken out, where at of them stand before it.
 #[tactic(auto, unfolding(tables::specs::Choice::pick))]
 fn taken_out_word(block: &[u32], h: Header, node: u32, count: u8, at: u32, i: u32) -> u32
-    requires { i < 8 }
+    requires { i < KEY_ROOM }
     ensures { result ≡ taken_out_word (keys_of block.now h node count) at i }
 {
     if i < at {
@@ -130,25 +129,21 @@ pub fn key_in(keys: [u32; KEY_ROOM], i: u32) -> u32
     keys.get(i as usize).copied().unwrap_or(0)
 }
 
-// Leaf i, from 0, of a sprout; past its leaves, no keys.
-#[tactic(auto, unfolding(tables::specs::Choice::pick, tables::specs::Choice::listed))]
-fn sprout_leaf(keys: [u32; KEY_ROOM], count: u8, i: usize) -> [u32; KEY_ROOM]
-    ensures { result ≡ sprout_leaf keys count i }
-{
-    if i < usize::from(count) {
-        one_key(keys.get(i).copied().unwrap_or(0))
-    } else {
-        [0; KEY_ROOM]
-    }
-}
-
 // "k new leaves of one key each, ascending": the leaves' key arrays, before their words go into the node table.
+#[tactic(auto, unfolding(tables::specs::Choice::pick, tables::specs::Choice::listed))]
 pub fn sprout(keys: [u32; KEY_ROOM], count: u8) -> [[u32; KEY_ROOM]; KEY_ROOM]
     ensures { result ≡ sprout_of keys count }
 {
     array::from_fn(
         |i|
+            requires { i < KEY_ROOM }
             ensures { result ≡ sprout_leaf keys count i }
-        { sprout_leaf(keys, count, i) },
+        {
+            if i < usize::from(count) {
+                one_key(keys[i])
+            } else {
+                [0; KEY_ROOM]
+            }
+        },
     )
 }
