@@ -22,36 +22,19 @@ fn clear(block: &mut [u32], count: u64)
     requires { count ≤ length block.old }
     ensures { block.new ≡ over_front (replicate count 0) block.old }
 {
-    let n = count as usize;
-    let mut i: usize = 0;
-    while i < n {
-        block[i] = 0;
-        i += 1;
-    }
+    block[..count as usize].fill(0);
 }
 
-// "Header, 6 words: k, processes, node limit, nodes used, record limit, records used", in two halves.
-fn write_numbers(block: &mut [u32], h: Header)
-    ensures { block.new ≡ sets block.old 0 (h.k ∷ h.processes ∷ h.nodes ∷ []) }
-{
-    words::put_at(block, 0, h.k as u32);
-    words::put_at(block, 1, h.processes as u32);
-    words::put_at(block, 2, h.nodes as u32);
-}
-
-fn write_counts(block: &mut [u32], h: Header)
-    ensures { block.new ≡ sets block.old 3 (h.nodesused ∷ h.records ∷ h.recordsused ∷ []) }
-{
-    words::put_at(block, 3, h.nodesused as u32);
-    words::put_at(block, 4, h.records as u32);
-    words::put_at(block, 5, h.recordsused as u32);
-}
-
+// "Header, 6 words: k, processes, node limit, nodes used, record limit, records used"
 fn write_header(block: &mut [u32], h: Header)
     ensures { block.new ≡ sets block.old 0 (header_image h) }
 {
-    write_numbers(block, h);
-    write_counts(block, h);
+    words::put_at(block, 0, u32::from(h.k));
+    words::put_at(block, 1, u32::from(h.processes));
+    words::put_at(block, 2, u32::from(h.nodes));
+    words::put_at(block, 3, u32::from(h.nodesused));
+    words::put_at(block, 4, u32::from(h.records));
+    words::put_at(block, 5, u32::from(h.recordsused));
 }
 
 // "node 1 is the root, node 2 the dummy; both hold only infinity."
