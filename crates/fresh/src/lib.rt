@@ -17,14 +17,6 @@ pub enum Made {
     Refused(Refusal),
 }
 
-// Every word of the block's needed length to 0; those beyond are untouched.
-fn clear(block: &mut [u32], count: u64)
-    requires { count ≤ length block.old }
-    ensures { block.new ≡ over_front (replicate count 0) block.old }
-{
-    block[..count as usize].fill(0);
-}
-
 // "Header, 6 words: k, processes, node limit, nodes used, record limit, records used"
 fn write_header(block: &mut [u32], h: Header)
     ensures { block.new ≡ sets block.old 0 (header_image h) }
@@ -41,10 +33,10 @@ fn write_header(block: &mut [u32], h: Header)
 fn write_fresh(block: &mut [u32], h: Header)
     ensures { block.new ≡ written_fresh h block.old }
 {
-    let all = [numbers::INFINITY; 8];
+    let all = [numbers::INFINITY; numbers::KEY_ROOM];
     write_header(block, h);
     node::write_internal(block, h, 1, all, 2, 0);
-    node::write_internal(block, h, 2, all, (h.k as u16) + 2, 0);
+    node::write_internal(block, h, 2, all, u16::from(h.k) + 2, 0);
 }
 
 // Making on a lent block: refusals 1, 2, else the fresh tree.
@@ -65,7 +57,7 @@ pub fn make_block(block: &mut [u32], k: u32, processes: u32, nodes: u32, records
         if (block.len() as u64) < n {
             return Made::Refused(Refusal::TooShort);
         }
-        clear(block, n);
+        block[..n as usize].fill(0);
         write_fresh(block, h);
         Made::Done
     } else {
