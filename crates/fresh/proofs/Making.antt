@@ -13,7 +13,7 @@ use Rattle.tables.specs.Choice.{pick, none, nor}
 use Rattle.tables.specs.Refusal.{refusal}
 use Rattle.tables.specs.Numbers.{k_stored, fresh_nodes, infinity, numbers_good, node_words, key_room}
 use Rattle.tables.specs.Layout.{block_words, node_at, over_front}
-use Rattle.nodes.specs.Node.{image_word, internal_image, with_node}
+use Rattle.nodes.specs.Node.{image_word, internal_image}
 use Rattle.fresh.specs.Fresh.{fresh_header, header_image, root_image, dummy_image, fresh_block, making_reasons, make_out, make_of, written_fresh}
 use Rattle.tables.specs.Header.{header_from}
 use Rattle.tables.specs.declared.header.Header.{Header}
@@ -105,10 +105,6 @@ pub fresh_over : (h : Header) (b : List ℕ) → h.k ≤ 8 → 2 ≤ h.nodes →
 fresh_over h b small two =
     fresh_runs h (drop (length {A = ℕ} (replicate (block_words h) 0)) b) small two
     ∙ ap (λ (l : ℕ). fresh_block h ++ drop l b) (length-replicate {A = ℕ} (block_words h) 0 ∙ sym (fresh-length h two))
-
-pub fresh_by : (h : Header) (b c d x : List ℕ) → c ≡ sets b 0 (header_image h) → d ≡ with_node c h 1 (internal_image h.k (replicate key_room infinity) 2 0) →
-    x ≡ with_node d h 2 (internal_image h.k (replicate key_room infinity) (h.k + 2) 0) → x ≡ written_fresh h b
-fresh_by h b c d x e f g = cc
 
 module _ (b : List ℕ) (k p n r m : ℕ) (t : Bool) (e : m ≡ k_stored k) (f : t ≡ numbers_good m p n r) where
   pub make_bad : t ≡ false → make_out (Err MakingNumber) b ≡ make_of b k p n r

@@ -9,57 +9,38 @@ ghost use Rattle.fresh.specs.Fresh.{make_out, make_of, header_image, written_fre
 use nodes::node;
 use tables::header::Header;
 use tables::numbers::Refusal;
-use tables::{header, numbers, words};
+use tables::{numbers, words};
 
-// Every word of the block's needed length to 0; those beyond are untouched.
-fn clear(block: &mut [u32], count: u64)
-    requires { count ≤ length block.old }
-    ensures { block.new ≡ over_front (replicate count 0) block.old }
-{
-    let n = count as usize;
-    let mut i: usize = 0;
-    while i < n {
-        block[i] = 0;
-        i += 1;
-    }
-}
-
-// "Header, 6 words: k, processes, node limit, nodes used, record limit, records used", in two halves.
-fn write_numbers(block: &mut [u32], h: Header)
-    ensures { block.new ≡ sets block.old 0 (h.k ∷ h.processes ∷ h.nodes ∷ []) }
-{
-    words::put_at(block, 0, h.k as u32);
-    words::put_at(block, 1, h.processes as u32);
-    words::put_at(block, 2, h.nodes as u32);
-}
-
-fn write_counts(block: &mut [u32], h: Header)
-    ensures { block.new ≡ sets block.old 3 (h.nodesused ∷ h.records ∷ h.recordsused ∷ []) }
-{
-    words::put_at(block, 3, h.nodesused as u32);
-    words::put_at(block, 4, h.records as u32);
-    words::put_at(block, 5, h.recordsused as u32);
-}
-
+// "Header, 6 words: k, processes, node limit, nodes used, record limit, records used"
 fn write_header(block: &mut [u32], h: Header)
     ensures { block.new ≡ sets block.old 0 (header_image h) }
 {
-    write_numbers(block, h);
-    write_counts(block, h);
+    words::put_at(block, 0, u32::from(h.k));
+    words::put_at(block, 1, u32::from(h.processes));
+    words::put_at(block, 2, u32::from(h.nodes));
+    words::put_at(block, 3, u32::from(h.nodesused));
+    words::put_at(block, 4, u32::from(h.records));
+    words::put_at(block, 5, u32::from(h.recordsused));
 }
 
 // "node 1 is the root, node 2 the dummy; both hold only infinity."
 fn write_fresh(block: &mut [u32], h: Header)
     ensures { block.new ≡ written_fresh h block.old }
 {
-    let all = [numbers::INFINITY; 8];
+    let all = [numbers::INFINITY; numbers::KEY_ROOM];
     write_header(block, h);
     node::write_internal(block, h, 1, all, 2, 0);
-    node::write_internal(block, h, 2, all, (h.k as u16) + 2, 0);
+    node::write_internal(block, h, 2, all, u16::from(h.k) + 2, 0);
 }
 
 // Making on a lent block: refusals 1, 2, else the fresh tree.
-pub fn make_block(block: &mut [u32], k: u32, processes: u32, nodes: u32, records: u32) -> Result<(), Refusal>
+pub fn make_block(
+    block: &mut [u32],
+    k: u32,
+    processes: u32,
+    nodes: u32,
+    records: u32,
+) -> Result<(), Refusal>
     ensures { make_out result block.new ≡ make_of block.old k processes nodes records }
 {
     let stored = numbers::k_stored(k);
@@ -78,7 +59,7 @@ pub fn make_block(block: &mut [u32], k: u32, processes: u32, nodes: u32, records
     if (block.len() as u64) < n {
         return Err(Refusal::TooShort);
     }
-    clear(block, n);
+    block[..n as usize].fill(0);
     write_fresh(block, h);
     Ok(())
 }

@@ -1,20 +1,27 @@
 -- Laws of a node's keys, return by return and turn by turn: order, first key that passes a test, a key put in or taken out, a sprout.
-use Prim.Native.Nat.{ℕ, suc, ◌+◌, ◌-◌, ◌≤◌, ◌<◌}
-use mathlib.Core.Path.{◌≡◌, refl, sym, ap, ◌∙◌}
-use mathlib.Core.Bool.{Bool, true, false}
+use Prim.Native.Nat.{ℕ, zero, suc, ◌+◌, ◌-◌, ◌≤◌, ◌<◌}
+use mathlib.Core.Path.{◌≡◌, refl, sym, ap, subst, ◌∙◌}
+use mathlib.Core.Bool.{Bool, true, false, ◌&&◌}
 use mathlib.Core.List.{List, [], ◌∷◌, ◌++◌}
 use native.Mathlib.Omega.{arith}
 use native.Mathlib.Numerals.{add-one}
+use native.Mathlib.Nat.{add-zero}
 use lib.Dec.{ltb, eqb, leb-suc-suc}
-use borrow.Author.Tests.{ltb-true, ltb-false, eqb-true, eqb-false, lt-ltb, le-ltb, eq-eqb, ne_eqb}
-use lib.ListN.{length, get_or, set, take, drop, replicate, get_or-append, get_or-eq_default, drop_of_length-le}
-use lib.Seq.{get_or-drop, get_or-take, get_or_at, get_or-append-add, length-take-le}
+use borrow.Author.Tests.{ltb-true, ltb-false, eqb-true, eqb-false, lt-ltb}
+use lib.ListN.{length, get_or, take, drop, get_or-append, get_or-eq_default, drop_of_length-le}
+use lib.Seq.{drop-cons, get_or-drop, get_or-take, get_or_at, get_or-append-add, length-take-le}
+use denote.Param.Members.{Mut, Called}
+use Rattle.std.specs.List.{list_all, find, range_with_len}
+use Rattle.std.specs.Option.{unwrap_or, option_map}
+use Rattle.std.proofs.Common.{Option, Some, cond}
+use Rattle.std.proofs.lemmas.Iterator.Adapters.{option_map_id}
+use Rattle.std.specs.Array.{IsFromFnResult, IsFromFnResultFrom}
 use Rattle.tables.specs.Choice.{pick, both, listed}
-use Rattle.tables.specs.Numbers.{infinity, key_room}
+use Rattle.tables.specs.Numbers.{infinity}
 use Rattle.tables.specs.Layout.{key_word}
-use Rattle.nodes.specs.Keys.{keys_of, rises, holds, first_at, greater_at, equal_at, route_of, put_in, taken_out, put_in_word, taken_out_word, key_array, sprout_leaf}
+use Rattle.nodes.specs.Keys.{keys_of, rises, holds, first_at, greater_at, equal_at, put_in, taken_out, put_in_word, taken_out_word}
 use Rattle.tables.specs.declared.header.Header.{Header}
-use Rattle.tables.proofs.Lists.{from_here, length-listed, get_or-listed, get_or-listed₀, filled_more, filled_all}
+use Rattle.tables.proofs.Lists.{length-listed, get_or-listed, moved}
 
 module _ (b : List ℕ) (h : Header) (node count : ℕ) where
   pub keys_length : length (keys_of b h node count) ≡ count
@@ -26,42 +33,48 @@ module _ (b : List ℕ) (h : Header) (node count : ℕ) where
   pub keys_past : (i past : ℕ) → count ≤ i → past ≡ get_or (keys_of b h node count) i past
   keys_past i past p = sym (get_or-eq_default (keys_of b h node count) past (rw keys_length p))
 
-pub ruleset keyed = (keys_at, keys_past)
+-- a list's elements from place a on, by its rule
+next_key : (f : ℕ → ℕ) (i a m n d : ℕ) → m ≡ a + n → get_or (listed f i m) a d ≡ get_or (listed f (i + a) n) 0 d
+unfolding listed
+next_key f i zero m n d e = let z : m ≡ n = omega arith in rw (z, add-zero i) refl
+next_key f i (suc a) zero n d e = absurd (omega arith)
+next_key f i (suc a) (suc m) n d e = next_key f (i + 1) a m n d (omega arith) ∙ ap (λ (j : ℕ). get_or (listed f j n) 0 d) (moved i a)
 
-rises_left : (ks : List ℕ) (i : ℕ) → i < length ks → rises (drop i ks) ≡ both (ltb (get_or ks i 0) (get_or ks (i + 1) infinity)) (rises (drop (i + 1) ks))
-unfolding rises
-rises_left ks i p = ap rises (from_here ks i p) ∙ ap (λ (x : ℕ). both (ltb (get_or ks i 0) x) (rises (drop (i + 1) ks))) (get_or-drop (i + 1) ks 0 infinity ∙ ap (λ (j : ℕ). get_or ks j infinity) (let z : i + 1 + 0 ≡ i + 1 = omega arith in z))
+and_both : (s t u v : Bool) → s ≡ t → u ≡ v → (s && u) ≡ both t v
+unfolding both
+and_both true t u v e f = rw (← e) f
+and_both false t u v e f = rw (← e) refl
 
--- the loop over a list ks of n keys, that has passed i of them
-module _ (ks : List ℕ) (n : ℕ) (size : length ks ≡ n) (i : ℕ) where
-  module _ (inv : rises ks ≡ rises (drop i ks)) (key next : ℕ) (k-is : key ≡ get_or ks i 0) (n-is : next ≡ get_or ks (i + 1) infinity) where
-    pub rises_not : i < n → next ≤ key → false ≡ rises ks
-    unfolding both
-    rises_not p q = let z : ltb key next ≡ false = le-ltb key next q in sym (inv ∙ rises_left ks i (omega arith) ∙ rw (← k-is, ← n-is, z) refl)
+-- each key below the next, place by place
+rises_from : (f : ℕ → ℕ) (m a n : ℕ) → m ≡ a + n → list_all (λ i. ltb (f (i + 1)) (get_or (listed f 1 m) (i + 1) infinity)) (range_with_len a n) ≡ rises (listed f (a + 1) n)
+unfolding listed rises
+rises_from f m a zero e = refl
+rises_from f m a (suc n) e =
+    let z : 1 + (a + 1) ≡ a + 1 + 1 = omega arith in
+    and_both _ _ _ _ (ap (λ (x : ℕ). ltb (f (a + 1)) x) (next_key f 1 (a + 1) m n infinity (omega arith) ∙ ap (λ (j : ℕ). get_or (listed f j n) 0 infinity) z))
+    (rises_from f m (a + 1) n (omega arith))
 
-    pub rises_again : i < n → key < next → rises ks ≡ rises (drop (i + 1) ks)
-    unfolding both
-    rises_again p q = let z : ltb key next ≡ true = lt-ltb key next q in inv ∙ rises_left ks i (omega arith) ∙ rw (← k-is, ← n-is, z) refl
+pub rises_all : (b : List ℕ) (h : Header) (node count : ℕ) → list_all (λ i. ltb (key_word b h node (i + 1)) (get_or (keys_of b h node count) (i + 1) infinity)) (range_with_len 0 count) ≡ rises (keys_of b h node count)
+rises_all b h node count = rises_from (λ i. key_word b h node i) count 0 count (omega arith) ∙ (let z : 0 + 1 ≡ 1 = omega arith in rw z refl)
 
-  pub rises_done : rises ks ≡ rises (drop i ks) → n ≤ i → true ≡ rises ks
-  unfolding rises
-  rises_done inv p = sym (inv ∙ rw (drop_of_length-le ks {i = i} (omega arith)) refl)
+-- the first place whose key passes, or where none does, the number of keys
+first_found : (test : ℕ → Bool) (f : ℕ → ℕ) (a n m : ℕ) → m ≡ a + n → unwrap_or (find (λ i. test (f (i + 1))) (range_with_len a n)) m ≡ a + first_at test (listed f (a + 1) n)
+unfolding listed first_at pick
+first_found test f a zero m e = e
+first_found test f a (suc n) m e = go (test (f (a + 1))) (first_found test f (a + 1) n m (omega arith))
+  where
+    go : (t : Bool) → unwrap_or (find (λ i. test (f (i + 1))) (range_with_len (a + 1) n)) m ≡ a + 1 + first_at test (listed f (a + 1 + 1) n) →
+        unwrap_or (cond t (Some a) (find (λ i. test (f (i + 1))) (range_with_len (a + 1) n))) m ≡ a + pick t 0 (first_at test (listed f (a + 1 + 1) n) + 1)
+    go true z = sym (add-zero a)
+    go false z = z ∙ (let y : (j : ℕ) → a + 1 + j ≡ a + (j + 1) = λ j. omega arith in y _)
 
-  module _ (test : ℕ → Bool) (inv : first_at test ks ≡ i + first_at test (drop i ks)) where
-    pub first_here : (key : ℕ) → key ≡ get_or ks i 0 → test key ≡ true → i < n → i ≡ first_at test ks
-    unfolding first_at pick
-    first_here key e t p = sym (inv ∙ rw (from_here ks i (omega arith), ← e, t) (let z : i + 0 ≡ i = omega arith in z))
-
-    pub first_again : (key : ℕ) → key ≡ get_or ks i 0 → test key ≡ false → i < n → first_at test ks ≡ i + 1 + first_at test (drop (i + 1) ks)
-    unfolding first_at pick
-    first_again key e t p = inv ∙ rw (from_here ks i (omega arith), ← e, t) (let z : (m : ℕ) → i + (m + 1) ≡ i + 1 + m = λ m. omega arith in z _)
-
-    pub first_none : n ≤ i → i ≡ first_at test ks
-    unfolding first_at
-    first_none p = sym (inv ∙ rw (drop_of_length-le ks {i = i} (omega arith)) (let z : i + 0 ≡ i = omega arith in z))
-
-pub first_start : (test : ℕ → Bool) (ks : List ℕ) → first_at test ks ≡ 0 + first_at test (drop 0 ks)
-first_start test ks = omega arith
+pub keys_first : (b : List ℕ) (h : Header) (node count : ℕ) (test : ℕ → Bool) (r : Option ℕ) (n m : ℕ) → option_map (λ x. x) r ≡ find (λ i. test (key_word b h node (i + 1))) (range_with_len 0 count) → n ≡ count → m ≡ unwrap_or r n →
+    m ≡ first_at test (keys_of b h node count)
+keys_first b h node count test r n m e p q =
+    q
+    ∙ ap (λ (o : Option ℕ). unwrap_or o n) (sym (option_map_id r) ∙ e)
+    ∙ first_found test (λ i. key_word b h node i) 0 count n (omega arith)
+    ∙ (let z : 0 + 1 ≡ 1 = omega arith in let y : (j : ℕ) → 0 + j ≡ j = λ j. omega arith in rw z (y _))
 
 -- the first key equal to x lies in the list exactly when the list holds x
 pub holds_is : (x : ℕ) (ks : List ℕ) → ltb (equal_at x ks) (length ks) ≡ holds x ks
@@ -76,8 +89,8 @@ holds_is x (y ∷ ys) = go (eqb x y) (holds_is x ys)
     go true e = lt-ltb 0 (suc (length ys)) (omega arith)
     go false e = up (equal_at x ys) ∙ e
 
-pub holds_by : (b : List ℕ) (h : Header) (node count x m : ℕ) → m ≡ equal_at x (keys_of b h node count) → ltb m count ≡ holds x (keys_of b h node count)
-holds_by b h node count x m e = of_length (keys_of b h node count) (keys_length b h node count) e
+pub holds_by : (b : List ℕ) (h : Header) (node count x m n : ℕ) → m ≡ equal_at x (keys_of b h node count) → n ≡ count → ltb m n ≡ holds x (keys_of b h node count)
+holds_by b h node count x m n e l = rw l (of_length (keys_of b h node count) (keys_length b h node count) e)
   where
     of_length : (ks : List ℕ) → length ks ≡ count → m ≡ equal_at x ks → ltb m count ≡ holds x ks
     of_length ks n e = rw (e, ← n) (holds_is x ks)
@@ -93,13 +106,6 @@ first_in test (y ∷ ys) = go (test y) (first_in test ys)
 
 pub first_of : (test : ℕ → Bool) (f : ℕ → ℕ) (i n r : ℕ) → r ≡ first_at test (listed f i n) → r ≤ n
 first_of test f i n r e = rw e (rw (length-listed f i n) at (first_in test (listed f i n)))
-
-pub route_none : (b : List ℕ) (h : Header) (node x : ℕ) → h.k ≡ 0 → 1 ≡ route_of b h node x
-unfolding listed first_at
-route_none b h node x e = rw e refl
-
-pub route_is : (b : List ℕ) (h : Header) (node x m : ℕ) → m ≡ greater_at x (keys_of b h node (h.k - 1)) → m + 1 ≡ route_of b h node x
-route_is b h node x m e = ap (λ (i : ℕ). i + 1) e
 
 -- what stands at i, before and behind a place at which a list is cut
 module _ (ks : List ℕ) (at : ℕ) (p : at ≤ length ks) where
@@ -148,69 +154,21 @@ module _ (ks : List ℕ) (at : ℕ) (p : at ≤ length ks) where
           ∙ get_or-drop (at + 1) ks (i - at) 0
           ∙ ap (λ (j : ℕ). get_or ks j 0) (back i at q))
 
--- the turn of a loop that fills a key array, or an array of them, element after element of what it is to be
-abbrev pub Filled : {A : Type 0} → (ℕ → A) → A → List A → ℕ → Type 0
-Filled f d o i = o ≡ take i (listed f 0 key_room) ++ drop i (replicate key_room d)
+-- an array made place by place, where a call at place i gives rule i, is a list of the rule
+module _ {F B : Type 0} (g : Mut F (ℕ × Unit {0}) B) (f : F) (ys : List B) (rule : ℕ → B) (n : ℕ) (gives : (i : ℕ) (y : B) (q : F) → i < n → Called g f (i, tt) y q → (q ≡ f) × (y ≡ rule i)) where
+  from_place : (i m : ℕ) → i + m ≡ length ys → length ys ≡ n → IsFromFnResultFrom g f ys i m → drop i ys ≡ listed rule i m
+  unfolding listed
+  from_place i zero e l r = drop_of_length-le ys {i = i} (omega arith)
+  from_place i (suc m) e l (q, y, is, call, rest) =
+      let z : (q ≡ f) × (y ≡ rule i) = gives i y q (omega arith) call in
+      let after : drop (i + 1) ys ≡ listed rule (i + 1) m = from_place (i + 1) m (omega arith) l (subst (λ (p : F). IsFromFnResultFrom g p ys (i + 1) m) z.0 rest) in
+      rw (drop-cons ys i y (omega arith), is.1 y, z.1, ← add-one i, after) refl
 
-module _ {A : Type 0} (f : ℕ → A) (d : A) (o : List A) (i : ℕ) (e : Filled f d o i) where
-  as_long : length (replicate key_room d) ≡ length (listed f 0 key_room)
-  as_long = sym (length-listed f 0 key_room)
-
-  pub array_again : (w : A) → i < key_room → w ≡ f i → Filled f d (set o i w) (i + 1)
-  array_again w p q =
-      filled_more (listed f 0 key_room) (replicate key_room d) o i w w e as_long (rw (length-listed f 0 key_room) p) (q ∙ sym (get_or-listed₀ f key_room i w p))
-
-  pub array_done : key_room ≤ i → o ≡ listed f 0 key_room
-  array_done p = filled_all (listed f 0 key_room) (replicate key_room d) o i e as_long (rw (length-listed f 0 key_room) p)
+  pub made_listed : IsFromFnResult g f ys n → ys ≡ listed rule 0 n
+  made_listed r = from_place 0 n (omega (arith, r.long)) r.long r.each
 
 pub put_word : (x : ℕ) (ks : List ℕ) (at i w : ℕ) → at ≡ greater_at x ks → w ≡ put_in_word x ks at i → w ≡ get_or (put_in x ks) i 0
 put_word x ks at i w e f = f ∙ rw e (put_in_at ks (greater_at x ks) (first_in _ ks) x i)
 
 pub taken_word : (x : ℕ) (ks : List ℕ) (at i w : ℕ) → at ≡ equal_at x ks → w ≡ taken_out_word ks at i → w ≡ get_or (taken_out x ks) i 0
 taken_word x ks at i w e f = f ∙ rw e (taken_out_at ks (equal_at x ks) (first_in _ ks) i)
-
--- the same loops, over the keys of a node as its words give them
-module _ (b : List ℕ) (h : Header) (node count i r : ℕ) (r-is : r ≡ key_word b h node (i + 1)) (p : i < count) where
-  pub rises_false : (next : ℕ) → rises (keys_of b h node count) ≡ rises (drop i (keys_of b h node count)) → next ≡ get_or (keys_of b h node count) (i + 1) infinity → next ≤ r →
-      false ≡ rises (keys_of b h node count)
-  rises_false next inv e q = rises_not (keys_of b h node count) count (keys_length b h node count) i inv r next (keys_at b h node count i r 0 p r-is) e p q
-
-  pub rises_on : (next : ℕ) → rises (keys_of b h node count) ≡ rises (drop i (keys_of b h node count)) → next ≡ get_or (keys_of b h node count) (i + 1) infinity → r < next →
-      rises (keys_of b h node count) ≡ rises (drop (i + 1) (keys_of b h node count))
-  rises_on next inv e q = rises_again (keys_of b h node count) count (keys_length b h node count) i inv r next (keys_at b h node count i r 0 p r-is) e p q
-
-  module _ (key : ℕ) where
-    pub greater_here : greater_at key (keys_of b h node count) ≡ i + greater_at key (drop i (keys_of b h node count)) → key < r → i ≡ greater_at key (keys_of b h node count)
-    greater_here inv q = first_here (keys_of b h node count) count (keys_length b h node count) i _ inv r (keys_at b h node count i r 0 p r-is) (lt-ltb key r q) p
-
-    pub greater_on : greater_at key (keys_of b h node count) ≡ i + greater_at key (drop i (keys_of b h node count)) → r ≤ key →
-        greater_at key (keys_of b h node count) ≡ i + 1 + greater_at key (drop (i + 1) (keys_of b h node count))
-    greater_on inv q = first_again (keys_of b h node count) count (keys_length b h node count) i _ inv r (keys_at b h node count i r 0 p r-is) (le-ltb key r q) p
-
-    pub equal_here : equal_at key (keys_of b h node count) ≡ i + equal_at key (drop i (keys_of b h node count)) → key ≡ r → i ≡ equal_at key (keys_of b h node count)
-    equal_here inv q = first_here (keys_of b h node count) count (keys_length b h node count) i _ inv r (keys_at b h node count i r 0 p r-is) (eq-eqb key r q) p
-
-    pub equal_on : equal_at key (keys_of b h node count) ≡ i + equal_at key (drop i (keys_of b h node count)) → (key ≡ r → ⊥) →
-        equal_at key (keys_of b h node count) ≡ i + 1 + equal_at key (drop (i + 1) (keys_of b h node count))
-    equal_on inv q = first_again (keys_of b h node count) count (keys_length b h node count) i _ inv r (keys_at b h node count i r 0 p r-is) (ne_eqb key r q) p
-
-module _ (b : List ℕ) (h : Header) (node count i : ℕ) (p : count ≤ i) where
-  pub rises_end : rises (keys_of b h node count) ≡ rises (drop i (keys_of b h node count)) → true ≡ rises (keys_of b h node count)
-  rises_end inv = rises_done (keys_of b h node count) count (keys_length b h node count) i inv p
-
-  pub greater_end : (key : ℕ) → greater_at key (keys_of b h node count) ≡ i + greater_at key (drop i (keys_of b h node count)) → i ≡ greater_at key (keys_of b h node count)
-  greater_end key inv = first_none (keys_of b h node count) count (keys_length b h node count) i _ inv p
-
-  pub equal_end : (key : ℕ) → equal_at key (keys_of b h node count) ≡ i + equal_at key (drop i (keys_of b h node count)) → i ≡ equal_at key (keys_of b h node count)
-  equal_end key inv = first_none (keys_of b h node count) count (keys_length b h node count) i _ inv p
-
-module _ (ks : List ℕ) (count i : ℕ) where
-  pub leaf_key : (x : ℕ) (r : List ℕ) → i < count → x ≡ get_or ks i 0 → r ≡ key_array (x ∷ []) → r ≡ sprout_leaf ks count i
-  unfolding pick
-  leaf_key x r p e f = cc (lt-ltb i count p)
-
-  pub leaf_none : count ≤ i → replicate 8 0 ≡ sprout_leaf ks count i
-  unfolding pick listed
-  leaf_none p = cc (le-ltb i count p)
-
-pub ruleset leaves = (leaf_key, leaf_none)

@@ -1,19 +1,20 @@
 // The keys of a node: the route of a key, a leaf's keys in order, a key put in or taken out, and the leaves of a sprout.
-ghost use Rattle.std.specs.Prelude.{◌≡◌, ◌<◌, ◌≤◌, [], ◌∷◌, get_or};
-ghost use Rattle.nodes.specs.Keys.{keys_of, greater_at, route_of, put_in, taken_out, key_array, sprout_of, sprout_leaf, equal_at};
+ghost use Rattle.std.specs.Prelude.{◌≡◌, ℕ, Bool, ◌<◌, ◌≤◌, [], ◌∷◌, get_or};
+ghost use Rattle.nodes.specs.Keys.{keys_of, first_at, greater_at, route_of, put_in, taken_out, key_array, sprout_of, sprout_leaf, equal_at};
 ghost use Rattle.nodes.specs.Keys.{put_in_word, taken_out_word};
 ghost use Rattle.nodes.specs.Keys.{rises as rises_of};
 ghost use Rattle.nodes.specs.Keys.{holds as holds_of};
 
+use std::array;
 use tables::header::Header;
-use tables::{header, numbers};
+use tables::numbers::{INFINITY, KEY_ROOM};
 
 // Key i of a node's first count keys, from 0; past them, what is given for past.
+#[tactic(auto, using(crate::proofs::Keyed::keys_at, crate::proofs::Keyed::keys_past))]
 fn key_or(block: &[u32], h: Header, node: u32, count: u8, i: u32, past: u32) -> u32
-    requires { i ≤ 255 }
     ensures { result ≡ get_or (keys_of block.now h node count) i past }
 {
-    if i < (count as u32) {
+    if i < u32::from(count) {
         h.key_word(block, node, i + 1)
     } else {
         past
@@ -24,70 +25,54 @@ fn key_or(block: &[u32], h: Header, node: u32, count: u8, i: u32, past: u32) -> 
 pub fn rises(block: &[u32], h: Header, node: u32, count: u8) -> bool
     ensures { result ≡ rises_of (keys_of block.now h node count) }
 {
-    let n = count as u32;
-    let mut i: u32 = 0;
-    while i < n {
-        let key = h.key_word(block, node, i + 1);
-        let next = key_or(block, h, node, count, i + 1, numbers::INFINITY);
-        if next <= key {
-            return false;
-        }
-        i += 1;
-    }
-    true
+    (0..u32::from(count)).all(|i| {
+        h.key_word(block, node, i + 1) < key_or(block, h, node, count, i + 1, INFINITY)
+    })
+}
+
+// How many keys stand before the first that passes a test.
+fn first_at<F: Fn(u32) -> bool>(block: &[u32], h: Header, node: u32, count: u8, passes: F) -> u32
+    requires { F.IsAlwaysCallable passes }
+    ensures { (test : ℕ → Bool) → ((x : ℕ) (r : Bool) → F.post passes x r → r ≡ test x) → result ≡ first_at test (keys_of block.now h node count) }
+{
+    let n = u32::from(count);
+    (0..n)
+        .find(|i| passes(h.key_word(block, node, *i + 1)))
+        .unwrap_or(n)
 }
 
 // How many keys stand before the first greater one.
 pub fn greater_at(block: &[u32], h: Header, node: u32, count: u8, key: u32) -> u32
     ensures { result ≡ greater_at key (keys_of block.now h node count) }
 {
-    let n = count as u32;
-    let mut i: u32 = 0;
-    while i < n {
-        if key < h.key_word(block, node, i + 1) {
-            return i;
-        }
-        i += 1;
-    }
-    i
+    first_at(block, h, node, count, |k| key < k)
 }
 
 // How many keys stand before the first equal one.
 fn equal_at(block: &[u32], h: Header, node: u32, count: u8, key: u32) -> u32
     ensures { result ≡ equal_at key (keys_of block.now h node count) }
 {
-    let n = count as u32;
-    let mut i: u32 = 0;
-    while i < n {
-        if key == h.key_word(block, node, i + 1) {
-            return i;
-        }
-        i += 1;
-    }
-    i
+    first_at(block, h, node, count, |k| key == k)
 }
 
+#[tactic(auto, using(crate::proofs::Keyed::holds_by))]
 pub fn holds(block: &[u32], h: Header, node: u32, count: u8, key: u32) -> bool
     ensures { result ≡ holds_of key (keys_of block.now h node count) }
 {
-    equal_at(block, h, node, count, key) < (count as u32)
+    equal_at(block, h, node, count, key) < u32::from(count)
 }
 
 // The child of a node for a key: the first i with the key below key i, else k.
 pub fn route(block: &[u32], h: Header, node: u32, key: u32) -> u32
     ensures { result ≡ route_of block.now h node key }
 {
-    let k = h.k;
-    if k == 0 {
-        return 1;
-    }
-    let before = greater_at(block, h, node, k - 1, key);
-    before + 1
+    greater_at(block, h, node, h.k.saturating_sub(1), key) + 1
 }
 
 // Key i of the keys with a key put in, where at of them stand before it.
+#[tactic(auto, unfolding(tables::specs::Choice::pick))]
 fn put_in_word(block: &[u32], h: Header, node: u32, count: u8, key: u32, at: u32, i: u32) -> u32
-    requires { i < 8 }
+    requires { i < KEY_ROOM }
     ensures { result ≡ put_in_word key (keys_of block.now h node count) at i }
 {
     if i < at {
@@ -100,22 +85,17 @@ fn put_in_word(block: &[u32], h: Header, node: u32, count: u8, key: u32, at: u32
 }
 
 // A leaf's keys with a key put in before the first greater one.
-pub fn with_key(block: &[u32], h: Header, node: u32, count: u8, key: u32) -> [u32; 8]
+pub fn with_key(block: &[u32], h: Header, node: u32, count: u8, key: u32) -> [u32; KEY_ROOM]
     ensures { result ≡ key_array (put_in key (keys_of block.now h node count)) }
 {
     let at = greater_at(block, h, node, count, key);
-    let mut keys = [0u32; 8];
-    let mut i: usize = 0;
-    while i < 8 {
-        keys[i] = put_in_word(block, h, node, count, key, at, i as u32);
-        i += 1;
-    }
-    keys
+    array::from_fn(|i| put_in_word(block, h, node, count, key, at, i as u32))
 }
 
 // Key i of the keys with one taken out, where at of them stand before it.
+#[tactic(auto, unfolding(tables::specs::Choice::pick))]
 fn taken_out_word(block: &[u32], h: Header, node: u32, count: u8, at: u32, i: u32) -> u32
-    requires { i < 8 }
+    requires { i < KEY_ROOM }
     ensures { result ≡ taken_out_word (keys_of block.now h node count) at i }
 {
     if i < at {
@@ -126,58 +106,43 @@ fn taken_out_word(block: &[u32], h: Header, node: u32, count: u8, at: u32, i: u3
 }
 
 // A leaf's keys with a key taken out.
-pub fn without_key(block: &[u32], h: Header, node: u32, count: u8, key: u32) -> [u32; 8]
+pub fn without_key(block: &[u32], h: Header, node: u32, count: u8, key: u32) -> [u32; KEY_ROOM]
     ensures { result ≡ key_array (taken_out key (keys_of block.now h node count)) }
 {
     let at = equal_at(block, h, node, count, key);
-    let mut keys = [0u32; 8];
-    let mut i: usize = 0;
-    while i < 8 {
-        keys[i] = taken_out_word(block, h, node, count, at, i as u32);
-        i += 1;
-    }
-    keys
+    array::from_fn(|i| taken_out_word(block, h, node, count, at, i as u32))
 }
 
 // A key array of one key.
-pub fn one_key(key: u32) -> [u32; 8]
+#[tactic(auto, unfolding(tables::specs::Choice::listed))]
+pub fn one_key(key: u32) -> [u32; KEY_ROOM]
     ensures { result ≡ key_array (key ∷ []) }
 {
-    let mut keys = [0u32; 8];
-    keys[0] = key;
-    keys
+    [key, 0, 0, 0, 0, 0, 0, 0]
 }
 
 // A key of a key array; past its end there is none.
-pub fn key_in(keys: [u32; 8], i: u32) -> u32
+pub fn key_in(keys: [u32; KEY_ROOM], i: u32) -> u32
     ensures { result ≡ get_or keys i 0 }
 {
-    let at = i as usize;
-    if at < numbers::KEY_ROOM { keys[at] } else { 0 }
-}
-
-// Leaf i, from 0, of a sprout; past its leaves, no keys.
-fn sprout_leaf(keys: [u32; 8], count: u8, i: u32) -> [u32; 8]
-    ensures { result ≡ sprout_leaf keys count i }
-{
-    if i < (count as u32) {
-        let key = key_in(keys, i);
-        one_key(key)
-    } else {
-        [0u32; 8]
-    }
+    keys.get(i as usize).copied().unwrap_or(0)
 }
 
 // "k new leaves of one key each, ascending": the leaves' key arrays, before their words go into the node table.
-pub fn sprout(keys: [u32; 8], count: u8) -> [[u32; 8]; 8]
+#[tactic(auto, unfolding(tables::specs::Choice::pick, tables::specs::Choice::listed))]
+pub fn sprout(keys: [u32; KEY_ROOM], count: u8) -> [[u32; KEY_ROOM]; KEY_ROOM]
     ensures { result ≡ sprout_of keys count }
 {
-    let mut leaves = [[0u32; 8]; 8];
-    let mut i: usize = 0;
-    while i < 8 {
-        let leaf = sprout_leaf(keys, count, i as u32);
-        leaves[i] = leaf;
-        i += 1;
-    }
-    leaves
+    array::from_fn(
+        |i|
+            requires { i < KEY_ROOM }
+            ensures { result ≡ sprout_leaf keys count i }
+        {
+            if i < usize::from(count) {
+                one_key(keys[i])
+            } else {
+                [0; KEY_ROOM]
+            }
+        },
+    )
 }

@@ -1,13 +1,11 @@
 -- The proof that `keys::rises` keeps its contract.
-use borrow.Author.Rules.{rules}
-use Rattle.nodes.proofs.Keyed.{rises_false, rises_on, rises_end}
+use Rattle.std.proofs.Common.{rules, tests, arith, ◌∙◌}
+use Rattle.std.proofs.lemmas.Iterator.{YieldsList-from_range}
+use Rattle.std.proofs.lemmas.Iterator.Search.{all_from_yields_List}
+use Rattle.nodes.proofs.Keyed.{rises_all}
 use Rattle.nodes.proofs.keys.rises.Goals as goal
 
-pub returns-then-next-key : goal.returns-then-next-key
-returns-then-next-key c = search rises_false
-
-pub loop-i-preserved : goal.loop-i-preserved
-loop-i-preserved c = (search rules, search rises_on)
-
 pub returns : goal.returns
-returns c = search rises_end
+returns c =
+    all_from_yields_List _ _ _ _ c.all.ensures.ran (YieldsList-from_range 0 c.args.count c.args.count (cc) (omega arith)) (λ x b q k. search (rules, tests))
+    ∙ rises_all c.args.block.now c.args.h c.args.node c.args.count

@@ -1,11 +1,7 @@
 -- The proof that `keys::sprout` keeps its contract.
-use native.Mathlib.Omega.{arith}
-use lib.ListN.{length-set}
-use Rattle.nodes.proofs.Keyed.{array_again, array_done}
+use Rattle.std.proofs.Common.{rules}
+use Rattle.nodes.proofs.Keyed.{made_listed}
 use Rattle.nodes.proofs.keys.sprout.Goals as goal
 
-pub loop-i-preserved : goal.loop-i-preserved
-loop-i-preserved c = (omega arith, (simp length-set (omega arith), array_again _ _ _ _ c.loop-i.invariant.1.1 _ c.loop-i-test.true c.sprout_leaf-leaf.ensures))
-
 pub returns : goal.returns
-returns c = array_done _ _ _ _ c.loop-i.invariant.1.1 c.loop-i-test.false
+returns c = made_listed _ _ _ _ _ (λ i y q p k. search rules) c.from_fn.ensures.items

@@ -1,6 +1,0 @@
--- The proof that `write_counts` keeps its contract.
-use Rattle.fresh.proofs.Stored.{three_stored}
-use Rattle.fresh.proofs.write_counts.Goals as goal
-
-pub returns : goal.returns
-returns c = search three_stored
