@@ -1,5 +1,5 @@
 -- Listing, its twin and range, return by return.
-use Prim.Native.Nat.{ℕ, ◌+◌, ◌≤◌, ◌<◌}
+use Prim.Native.Nat.{ℕ, ◌+◌, ◌≤◌}
 use mathlib.Core.Path.{◌≡◌, refl, sym, ap, subst, ◌∙◌}
 use mathlib.Core.Bool.{Bool, true, false}
 use mathlib.Core.List.{List, [], ◌∷◌}
@@ -9,7 +9,6 @@ use lib.ListN.{length, take, drop, length-append}
 use lib.Seq.{sets, sets-eq, take-append_seam, length-take-le}
 use Rattle.std.specs.Prelude.{Result, Ok, Err}
 use Rattle.tables.specs.Choice.{pick, Reason, decide}
-use Rattle.tables.specs.Numbers.{infinity}
 use Rattle.tables.specs.Refusal.{refusal}
 use Rattle.tables.specs.Header.{header_of, header_read}
 use Rattle.tables.specs.Layout.{over_front}
@@ -17,11 +16,7 @@ use Rattle.tables.specs.declared.header.Header.{Header}
 use Rattle.tables.specs.declared.header.HeaderRead.{HeaderRead}
 use Rattle.tables.specs.declared.header.HeaderRead.TheVariants.{Good, Refused}
 use Rattle.tables.specs.declared.numbers.Refusal.{Refusal}
-use Rattle.tables.specs.declared.numbers.Refusal.TheVariants.{Damaged, InfinityGiven, ListTooShort, LowAboveHigh}
 use Rattle.tables.proofs.Limits.{read_header, read_refuses, read_accepts}
-use Rattle.meter.specs.Walk.{walked}
-use Rattle.meter.specs.Measure.{measure_of}
-use Rattle.meter.specs.declared.Meter.{Meter}
 use Rattle.walk.specs.Calls.{ListOut, list_out, list_of, list_reasons, part_of, keys_met, range_of}
 use Rattle.walk.specs.Parts.{list_good, range_good, filled_of}
 
