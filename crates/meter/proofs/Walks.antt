@@ -69,7 +69,7 @@ module _ (b : List ℕ) (h : Header) where
   abbrev pub children : ℕ → ℕ → ℕ → Walk → Walk
   children deep node n w = in_order (λ i v. walk_of deep b h (child_of b h node i) v) n w
 
-  fewer_children : (deep node n : ℕ) (w : Walk) → (children deep node n w).allowed ≤ w.allowed
+  pub fewer_children : (deep node n : ℕ) (w : Walk) → (children deep node n w).allowed ≤ w.allowed
   fewer_children deep node n w = fewer_order (λ i v. walk_of deep b h (child_of b h node i) v) (λ i v. fewer_walk deep (child_of b h node i) v) n w
 
   same_children : (d e node a : ℕ) → ((c : Child) (v : Walk) → v.allowed ≤ a → walk_of d b h c v ≡ walk_of e b h c v) →
