@@ -6,6 +6,7 @@ use mathlib.Core.List.{List, Memᴰ}
 use native.Mathlib.Omega.{arith}
 use native.Mathlib.Decide.{dec_le, dec_lt}
 use lib.ListN.{get_or}
+use Rattle.std.specs.Prelude.{true, false, Ok}
 use Rattle.tables.specs.Numbers.{infinity}
 use Rattle.tables.specs.Layout.{block_words}
 use Rattle.process.specs.declared.Answer.{Answer}
@@ -13,7 +14,6 @@ use Rattle.process.specs.declared.Answer.TheVariants.{No, Yes, Full}
 use Rattle.process.specs.Process.{started_as}
 use Rattle.points.specs.Rows.{row_of}
 use Rattle.walk.specs.Calls.{keys_met, range_of}
-use Rattle.walk.specs.declared.Cleared.TheVariants as cleared
 use Rattle.history.specs.View.{In, route, keys, Reach, Below, Holds}
 use Rattle.history.specs.Shared.{Desc, Shared, Failed}
 use Rattle.history.specs.Change.{SwapPend, Drawn, put_leaf, out_leaf, sprout, draw_replace, draw_prune, swap_replace, unflag_replace, mark, swap_prune, unflag_prune}
@@ -359,7 +359,7 @@ module _ {s : State} {es : List Event} (reached : Reached s es) where
       q : high ≢ infinity
       q e = omega arith
 
-      go : (range_of (block_at s es m) low high ≡ cleared.Yes) ⊎ (range_of (block_at s es m) low high ≡ cleared.No) → Range s es m low high
+      go : (range_of (block_at s es m) low high ≡ Ok true) ⊎ (range_of (block_at s es m) low high ≡ Ok false) → Range s es m low high
       go (inl e) = clear e ((survey.range_yes (fit m) (sound m) low high p q l).0 e)
       go (inr e) = met e ((survey.range_no (fit m) (sound m) low high p q l).0 e)
 

@@ -6,11 +6,11 @@ use mathlib.Core.List.{List, [], ◌∷◌, Memᴰ}
 use native.Mathlib.Omega.{arith}
 use native.Mathlib.Decide.{dec_le}
 use lib.ListN.{length}
+use Rattle.std.specs.Prelude.{Bool, true, false, Result, Ok, Err}
 use Rattle.tables.specs.Numbers.{infinity}
+use Rattle.tables.specs.declared.numbers.Refusal.{Refusal}
 use Rattle.tables.specs.declared.numbers.Refusal.TheVariants.{ListTooShort}
 use Rattle.walk.specs.Calls.{ListOut, list_of, range_of}
-use Rattle.walk.specs.declared.Listed.TheVariants.{Count, Refused}
-use Rattle.walk.specs.declared.Cleared.TheVariants.{No, Yes}
 use Rattle.link.specs.Events.{Event, State, block_at}
 use Rattle.link.specs.Sets.{InSet}
 use Rattle.claim.proofs.Kept.{taken_between, swap_puts}
@@ -39,15 +39,15 @@ module _ {s : State} {es : List Event} (claim : Claim s es) where
           }
 
   -- "if range says clear"
-  pub range_clear : (m low high : ℕ) → low ≤ high → high < infinity → range_of (block_at s es m) low high ≡ Yes → Flushed s es m low high
+  pub range_clear : (m low high : ℕ) → low ≤ high → high < infinity → range_of (block_at s es m) low high ≡ Ok true → Flushed s es m low high
   range_clear m low high a c e = go (claim.range m low high a c)
     where
       go : Range s es m low high → Flushed s es m low high
       go (clear f none) = flushed m low high none
-      go (met f x) = absurd (let z : Yes ≡ No = sym e ∙ f in let v : ◌≡◌ {A = ℕ} 0 1 = cc in omega arith)
+      go (met f x) = absurd (let z : ◌≡◌ {A = Result Bool Refusal} (Ok true) (Ok false) = sym e ∙ f in let v : ◌≡◌ {A = ℕ} 0 1 = cc in omega arith)
 
   -- "or the listing is empty"
-  pub listing_empty : (m : ℕ) (list : List ℕ) → (list_of (block_at s es m) list).listed ≡ Count 0 → Flushed s es m 0 infinity
+  pub listing_empty : (m : ℕ) (list : List ℕ) → (list_of (block_at s es m) list).listed ≡ Ok 0 → Flushed s es m 0 infinity
   listing_empty m list e = go (claim.listing m).keys refl (dec_le (length (claim.listing m).keys) (length list))
     where
       full : Listing s es m
@@ -56,9 +56,9 @@ module _ {s : State} {es : List Event} (claim : Claim s es) where
       go : (ks : List ℕ) → full.keys ≡ ks → Dec (length full.keys ≤ length list) → Flushed s es m 0 infinity
       go [] z (yes l) = flushed m 0 infinity (λ x a c h. Memᴰ.not-nil (subst (λ (v : List ℕ). Memᴰ x v) z ((full.set.exact x).1 h)))
       go (y ∷ ys) z (yes l) =
-          let n : Count (length full.keys) ≡ Count 0 = sym (ap (λ (o : ListOut). o.listed) (full.call list l)) ∙ e in
+          let n : ◌≡◌ {A = Result ℕ Refusal} (Ok (length full.keys)) (Ok 0) = sym (ap (λ (o : ListOut). o.listed) (full.call list l)) ∙ e in
           let v : length full.keys ≡ 0 = cc in
           let w : length full.keys ≡ suc (length ys) = ap length z in absurd (omega arith)
       go ks z (no l) =
-          let n : Refused ListTooShort ≡ Count 0 = sym (ap (λ (o : ListOut). o.listed) (full.short list (omega arith))) ∙ e in
+          let n : ◌≡◌ {A = Result ℕ Refusal} (Err ListTooShort) (Ok 0) = sym (ap (λ (o : ListOut). o.listed) (full.short list (omega arith))) ∙ e in
           let v : ◌≡◌ {A = ℕ} 0 1 = cc in absurd (omega arith)

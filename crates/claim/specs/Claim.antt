@@ -1,7 +1,7 @@
 -- Demand 3: what holds of every list of starts and steps from a state, at every moment of it. One field for each clause.
 -- Moment m is before event m and after all events before it. The words that it is said in: link/specs (Events, Operations, Swaps, Sets),
 -- survey/specs (Set) and history/specs (View: the tree and the set; Effects: what changes).
-use Rattle.std.specs.Prelude.{ℕ, suc, ◌+◌, ◌*◌, ◌≤◌, ◌<◌, ◌≡◌, ◌≢◌, ◌↔◌, length, get_or}
+use Rattle.std.specs.Prelude.{ℕ, suc, ◌+◌, ◌*◌, ◌≤◌, ◌<◌, ◌≡◌, ◌≢◌, ◌↔◌, length, get_or, true, false, Ok, Err}
 use mathlib.Core.List.{List, [], Memᴰ}
 use Rattle.tables.specs.Numbers.{infinity}
 use Rattle.tables.specs.Refusal.{number_of}
@@ -17,8 +17,6 @@ use Rattle.process.specs.declared.StepAnswer.TheVariants as steps
 use Rattle.points.specs.declared.start.StartAnswer.TheVariants as starts
 use Rattle.make.specs.Make.{make_call}
 use Rattle.walk.specs.Calls.{list_out, list_of, part_of, ClearOf, Between, range_of}
-use Rattle.walk.specs.declared.Listed.TheVariants as listed
-use Rattle.walk.specs.declared.Cleared.TheVariants as cleared
 use Rattle.history.specs.View.{In, route, keys, Reach, Below}
 use Rattle.history.specs.Shared.{Shared}
 use Rattle.history.specs.Effects.{Added, Removed, Swapped, Grown}
@@ -33,15 +31,15 @@ use Rattle.survey.specs.Set.{Lists}
 pub record Listing (s : State) (es : List Event) (m : ℕ) : Type 0 where
   pub keys : List ℕ
   pub set : Lists (block_at s es m) keys
-  pub call : (list : List ℕ) → length keys ≤ length list → list_of (block_at s es m) list ≡ list_out (listed.Count (length keys)) (over_front keys list)
+  pub call : (list : List ℕ) → length keys ≤ length list → list_of (block_at s es m) list ≡ list_out (Ok (length keys)) (over_front keys list)
   pub twin : (list : List ℕ) → length keys ≤ length list → part_of (block_at s es m) list ≡ keys
-  pub short : (list : List ℕ) → length list < length keys → list_of (block_at s es m) list ≡ list_out (listed.Refused ListTooShort) list
+  pub short : (list : List ℕ) → length list < length keys → list_of (block_at s es m) list ≡ list_out (Err ListTooShort) list
   pub short_twin : (list : List ℕ) → length list < length keys → part_of (block_at s es m) list ≡ []
 
 -- what range answers at a moment: yes, and no key of the set lies from low to high; or no, and one does
 pub data Range (s : State) (es : List Event) (m low high : ℕ) : Type 0 where
-  clear : range_of (block_at s es m) low high ≡ cleared.Yes → ClearOf (InSet s es m) low high → Range s es m low high
-  met : range_of (block_at s es m) low high ≡ cleared.No → Between (InSet s es m) low high → Range s es m low high
+  clear : range_of (block_at s es m) low high ≡ Ok true → ClearOf (InSet s es m) low high → Range s es m low high
+  met : range_of (block_at s es m) low high ≡ Ok false → Between (InSet s es m) low high → Range s es m low high
 
 -- what event m does to the set, for the operation that event i started: its key is put in by an insert, taken out by a delete
 pub data Changes (s : State) (es : List Event) (m i : ℕ) : Type 0 where

@@ -2,91 +2,47 @@
 // Its one public function asks nothing of its caller: what has no room in the list is not stored.
 #![tactic(auto)]
 
-ghost use Rattle.std.specs.Prelude.{◌≡◌, ◌-◌, ◌<◌};
+ghost use Rattle.std.specs.Prelude.{◌≡◌};
 ghost use Rattle.std.proofs.lemmas.List.Edits.{sets};
 ghost use Rattle.nodes.specs.Keys.{keys_of};
-ghost use Rattle.meter.specs.Walk.{begin, leaf_met, met_from, walked};
-ghost use Rattle.meter.specs.Measure.{Roomy};
-ghost use Rattle.fill.specs.Fill.{Filled, spent_filling};
+ghost use Rattle.meter.specs.Walk.{walked};
+ghost use Rattle.fill.specs.Fill.{Filled};
+ghost use Rattle.fill.specs.Laws.{filled_nothing, filled_behind};
 
+use meter::Pass;
 use nodes::node;
-use nodes::node::{Child, Kin};
 use tables::header::Header;
-use tables::{header, words};
+use tables::words;
 
-// Nodes still allowed, and where the next key goes.
-#[derive(Clone, Copy)]
-struct Filling {
-    allowed: u16,
+// The lent list, and where the next key goes.
+#[derive(Drop)]
+struct Filling<'a> {
+    list: &'a mut [u32],
     at: u32,
 }
 
-fn spent(f: Filling) -> Filling
-    requires { 0 < f.allowed }
-    ensures { result ≡ spent_filling f }
-{
-    Filling {
-        allowed: f.allowed - 1,
-        at: f.at,
+impl Pass for Filling<'_> {
+    ghost met = { Filled };
+
+    ghost nothing = { filled_nothing };
+
+    ghost behind = { filled_behind };
+
+    fn leaf(&mut self, block: &[u32], h: Header, node: u32, count: u8) {
+        store_keys(block, h, node, count, self.list, self.at);
+        self.at = self.at.saturating_add(u32::from(count));
     }
+
+    fn damage(&mut self) {}
 }
 
 // A leaf's keys, one behind the other.
 fn store_keys(block: &[u32], h: Header, node: u32, count: u8, list: &mut [u32], at: u32)
-    requires { Roomy at 0 }
     ensures { list.new ≡ sets list.old at (keys_of block.now h node count) }
 {
-    let n = count as u32;
-    let mut i: u32 = 0;
-    while i < n {
+    for i in 0..u32::from(count) {
         let key = h.key_word(block, node, i + 1);
-        words::put_at(list, (at + i) as u64, key);
-        i += 1;
-    }
-}
-
-fn fill_leaf(
-    block: &[u32],
-    h: Header,
-    node: u32,
-    count: u8,
-    list: &mut [u32],
-    f: Filling,
-) -> Filling
-    requires { (0 < f.allowed) × (Roomy f.at f.allowed) }
-    ensures { Filled list.old f (leaf_met block.now h node count (begin (f.allowed - 1))) list.new result }
-{
-    store_keys(block, h, node, count, list, f.at);
-    Filling {
-        allowed: f.allowed - 1,
-        at: f.at + (count as u32),
-    }
-}
-
-// The walk down from a node, ended by the number of nodes still allowed.
-fn fill(block: &[u32], h: Header, child: Child, list: &mut [u32], f: Filling) -> Filling
-    requires { Roomy f.at f.allowed }
-    ensures { Filled list.old f (met_from block.now h child f.allowed) list.new result }
-{
-    if f.allowed == 0 {
-        return f;
-    }
-    let Child::Node(kin) = child else {
-        return spent(f);
-    };
-    match kin {
-        Kin::Leaf(node, count) => fill_leaf(block, h, node, count, list, f),
-        Kin::Internal(node) => {
-            let k = h.k as u32;
-            let mut v = spent(f);
-            let mut i: u32 = 0;
-            while i < k {
-                let below = node::child_of(block, h, node, i + 1);
-                v = fill(block, h, below, list, v);
-                i += 1;
-            }
-            v
-        }
+        words::put_at(list, u64::from(at) + u64::from(i), key);
     }
 }
 
@@ -95,9 +51,6 @@ pub fn fill_all(block: &[u32], h: Header, list: &mut [u32])
     ensures { list.new ≡ sets list.old 0 (walked block.now h).keys }
 {
     let root = node::kin_of(block, h, 1);
-    let start = Filling {
-        allowed: h.nodesused,
-        at: 0,
-    };
-    let end = fill(block, h, root, list, start);
+    let mut filling = Filling { list, at: 0 };
+    filling.walk(block, h, root, h.nodesused);
 }

@@ -12,7 +12,7 @@ use tables::words;
 
 // Making is proved in crate `make`, the "single calls, lent the block without the process row" in crate `walk`; all are passed on with their contracts, so that a driver names one crate.
 pub use make::make;
-pub use walk::{Cleared, Listed, listing, listing_part, range};
+pub use walk::{listing, listing_part, range};
 
 // The record at a place of the row, counted from 0; an idle one past its end.
 pub fn take(row: &[Process], at: usize) -> Process

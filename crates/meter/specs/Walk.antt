@@ -1,12 +1,11 @@
 -- "The walk goes down from node 1, children in order, always over the whole tree; a walk that meets more nodes than are in use is damaged."
-use Rattle.std.specs.Prelude.{ℕ, zero, suc, ◌-◌, Bool, true, false, List, [], ◌++◌, eqb}
+use Rattle.nodes.specs.declared.node.Kin.{Kin}
+use Rattle.std.specs.Prelude.{ℕ, zero, suc, ◌-◌, Bool, true, false, List, [], ◌++◌, eqb, Option, Some, None}
 use Rattle.tables.specs.Choice.{pick, both}
 use Rattle.nodes.specs.Node.{kin_of, child_of}
 use Rattle.nodes.specs.Keys.{keys_of, rises}
 use Rattle.tables.specs.declared.header.Header.{Header}
 use Rattle.nodes.specs.declared.node.Kin.TheVariants.{Leaf, Internal}
-use Rattle.nodes.specs.declared.node.Child.{Child}
-use Rattle.nodes.specs.declared.node.Child.TheVariants.{Node, Damaged}
 
 -- where a walk stands: how many nodes it may still meet, the keys that it has met, in order, and whether it has met no damage
 pub record Walk : Type 0 where
@@ -39,20 +38,20 @@ in_order visit zero w = w
 in_order visit (suc n) w = visit (suc n) (in_order visit n w)
 
 -- a node that is met, by what it is; `down` is the walk from a child of it
-abbrev pub node_met : (Child → Walk → Walk) → List ℕ → Header → Child → Walk → Walk
-node_met down b h (Node (Leaf node count)) w = leaf_met b h node count w
-node_met down b h (Node (Internal node)) w = in_order (λ i v. down (child_of b h node i) v) h.k w
-node_met down b h Damaged w = damaged w
+abbrev pub node_met : (Option Kin → Walk → Walk) → List ℕ → Header → Option Kin → Walk → Walk
+node_met down b h (Some (Leaf node count)) w = leaf_met b h node count w
+node_met down b h (Some (Internal node)) w = in_order (λ i v. down (child_of b h node i) v) h.k w
+node_met down b h None w = damaged w
 
 -- The walk down from a node. The first number only bounds how deep the definition goes: from nodes allowed on it changes nothing
 -- (meter/proofs/Walks.antt, deep-enough), so that what ends a walk is the number of nodes still allowed.
-unfoldable pub walk_of : ℕ → List ℕ → Header → Child → Walk → Walk
+unfoldable pub walk_of : ℕ → List ℕ → Header → Option Kin → Walk → Walk
 walk_of zero b h child w = damaged w
 walk_of (suc deep) b h child w =
     pick (eqb w.allowed 0) (damaged w) (node_met (λ c v. walk_of deep b h c v) b h child (spent w))
 
 -- what is met down from a node by a walk with so many nodes allowed
-abbrev pub met_from : List ℕ → Header → Child → ℕ → Walk
+abbrev pub met_from : List ℕ → Header → Option Kin → ℕ → Walk
 met_from b h child allowed = walk_of allowed b h child (begin allowed)
 
 -- the walk: from node 1, with the nodes in use allowed

@@ -1,16 +1,57 @@
-// The measuring pass: how many keys a walk meets, whether one of them lies in a range, and whether all was sound.
-// Its one public function asks nothing of its caller.
+// The walk over the whole tree, and its measuring pass: how many keys a walk meets, whether one of them lies in a range, and whether all was sound.
+// Its public functions ask nothing of their callers.
 #![tactic(auto)]
 
-ghost use Rattle.std.specs.Prelude.{◌≡◌, ◌-◌, ◌<◌};
-ghost use Rattle.nodes.specs.Keys.{keys_of};
-ghost use Rattle.meter.specs.Walk.{begin, leaf_met, met_from, walked};
-ghost use Rattle.meter.specs.Measure.{any_within, Roomy, measure_of, Measured, spent_meter, damaged_meter};
+ghost use Rattle.std.specs.Prelude.{◌≡◌, ◌≤◌, ℕ, Bool, true, false, List, [], ◌++◌};
+ghost use Rattle.tables.specs.Choice.{both};
+ghost use Rattle.nodes.specs.Keys.{keys_of, rises};
+ghost use Rattle.meter.specs.Walk.{met_from, walked};
+ghost use Rattle.meter.specs.Measure.{any_within, measure_of, Measured};
+ghost use Rattle.meter.specs.Laws.{measured_nothing, measured_behind};
 
-use nodes::node::{Child, Kin};
+use nodes::node::Kin;
 use nodes::{keys, node};
 use tables::header::Header;
-use tables::{choice, header};
+
+// What a pass over the tree does where the walk meets a leaf, and where it meets damage.
+pub trait Pass {
+    // The pass before, the keys that are met, in order, whether no damage is met, and the pass after.
+    ghost met: { Self → List ℕ → Bool → Self → Type 0 };
+
+    fn leaf(&mut self, block: &[u32], h: Header, node: u32, count: u8)
+        ensures { met self.old (keys_of block.now h node count) (rises (keys_of block.now h node count)) self.new };
+
+    fn damage(&mut self)
+        ensures { met self.old [] false self.new };
+
+    // A walk that meets nothing, and two walks one behind the other.
+    ghost nothing: { (p : Self) → met p [] true p };
+
+    ghost behind: { (p q r : Self) (ks ls : List ℕ) (s t : Bool) → met p ks s q → met q ls t r → met p (ks ++ ls) (both s t) r };
+
+    // The walk down from a node, ended by the number of nodes still allowed, which it answers.
+    final fn walk(&mut self, block: &[u32], h: Header, child: Option<Kin>, allowed: u16) -> u16
+        ensures left { result ≡ (met_from block.now h child allowed).allowed }
+        ensures met { met self.old (met_from block.now h child allowed).keys (met_from block.now h child allowed).sound self.new }
+    {
+        if allowed == 0 {
+            self.damage();
+            return 0;
+        }
+        let mut left = allowed - 1;
+        match child {
+            None => self.damage(),
+            Some(Kin::Leaf(node, count)) => self.leaf(block, h, node, count),
+            Some(Kin::Internal(node)) => {
+                for i in 0..u32::from(h.k) {
+                    let below = node::child_of(block, h, node, i + 1);
+                    left = self.walk(block, h, below, left);
+                }
+            }
+        }
+        left
+    }
+}
 
 // Nodes still allowed, keys met, whether one of them lies in the range, and whether no damage was met.
 #[derive(Clone, Copy)]
@@ -21,105 +62,65 @@ pub struct Meter {
     pub sound: bool,
 }
 
+// The measuring pass: the range, keys met, whether one of them lies in it, and whether no damage was met.
+#[derive(Clone, Copy)]
+struct Tally {
+    low: u32,
+    high: u32,
+    count: u32,
+    found: bool,
+    sound: bool,
+}
+
+impl Pass for Tally {
+    ghost met = { Measured };
+
+    ghost nothing = { measured_nothing };
+
+    ghost behind = { measured_behind };
+
+    fn leaf(&mut self, block: &[u32], h: Header, node: u32, count: u8) {
+        self.found |= leaf_within(block, h, node, count, self.low, self.high);
+        self.sound &= keys::rises(block, h, node, count);
+        // A leaf has a byte of keys at most and a walk 16 bits of nodes: the count never gets so far.
+        self.count = self.count.saturating_add(u32::from(count));
+    }
+
+    fn damage(&mut self) {
+        self.sound = false;
+    }
+}
+
 // Whether one of a leaf's keys lies from low to high.
 fn leaf_within(block: &[u32], h: Header, node: u32, count: u8, low: u32, high: u32) -> bool
     ensures { result ≡ any_within low high (keys_of block.now h node count) }
 {
-    let n = count as u32;
-    let mut found = false;
-    let mut i: u32 = 0;
-    while i < n {
+    for i in 0..u32::from(count) {
         let key = h.key_word(block, node, i + 1);
-        let inside = choice::within(low as u64, key as u64, high as u64);
-        found = choice::or(found, inside);
-        i += 1;
-    }
-    found
-}
-
-// A leaf is one node: its keys are counted and looked through.
-fn measure_leaf(
-    block: &[u32],
-    h: Header,
-    node: u32,
-    count: u8,
-    low: u32,
-    high: u32,
-    m: Meter,
-) -> Meter
-    requires { (0 < m.allowed) × (Roomy m.count m.allowed) }
-    ensures { Measured low high m (leaf_met block.now h node count (begin (m.allowed - 1))) result }
-{
-    let found = leaf_within(block, h, node, count, low, high);
-    let rises = keys::rises(block, h, node, count);
-    Meter {
-        allowed: m.allowed - 1,
-        count: m.count + (count as u32),
-        found: choice::or(m.found, found),
-        sound: choice::and(m.sound, rises),
-    }
-}
-
-fn spent(m: Meter) -> Meter
-    requires { 0 < m.allowed }
-    ensures { result ≡ spent_meter m }
-{
-    Meter {
-        allowed: m.allowed - 1,
-        count: m.count,
-        found: m.found,
-        sound: m.sound,
-    }
-}
-
-fn damaged(m: Meter) -> Meter
-    ensures { result ≡ damaged_meter m }
-{
-    Meter {
-        allowed: m.allowed,
-        count: m.count,
-        found: m.found,
-        sound: false,
-    }
-}
-
-// The walk down from a node, ended by the number of nodes still allowed.
-fn measure(block: &[u32], h: Header, child: Child, low: u32, high: u32, m: Meter) -> Meter
-    requires { Roomy m.count m.allowed }
-    ensures { Measured low high m (met_from block.now h child m.allowed) result }
-{
-    if m.allowed == 0 {
-        return damaged(m);
-    }
-    let Child::Node(kin) = child else {
-        return damaged(spent(m));
-    };
-    match kin {
-        Kin::Leaf(node, count) => measure_leaf(block, h, node, count, low, high, m),
-        Kin::Internal(node) => {
-            let k = h.k as u32;
-            let mut v = spent(m);
-            let mut i: u32 = 0;
-            while i < k {
-                let below = node::child_of(block, h, node, i + 1);
-                v = measure(block, h, below, low, high, v);
-                i += 1;
-            }
-            v
+        if low <= key && key <= high {
+            return true;
         }
     }
+    false
 }
 
 // The whole walk, from node 1.
 pub fn measure_all(block: &[u32], h: Header, low: u32, high: u32) -> Meter
     ensures { result ≡ measure_of low high (walked block.now h) }
 {
-    let root = node::kin_of(block, h, 1);
-    let start = Meter {
-        allowed: h.nodesused,
+    let mut m = Tally {
+        low,
+        high,
         count: 0,
         found: false,
         sound: true,
     };
-    measure(block, h, root, low, high, start)
+    let root = node::kin_of(block, h, 1);
+    let allowed = m.walk(block, h, root, h.nodesused);
+    Meter {
+        allowed,
+        count: m.count,
+        found: m.found,
+        sound: m.sound,
+    }
 }

@@ -5,6 +5,7 @@ use mathlib.Core.Bool.{Bool, true, false}
 use mathlib.Core.List.{List}
 use native.Mathlib.Omega.{arith}
 use lib.ListN.{length, get_or, get_or-eq_default}
+use Rattle.std.specs.Prelude.{Result, Ok, Err}
 use Rattle.tables.specs.Choice.{pick}
 use Rattle.tables.specs.declared.numbers.Refusal.{Refusal}
 use Rattle.tables.specs.declared.numbers.Refusal.TheVariants.{MakingNumber, NotInForm}
@@ -22,8 +23,6 @@ use Rattle.held.specs.declared.HeldMade.{HeldMade}
 use Rattle.held.specs.declared.HeldStart.{HeldStart}
 use Rattle.held.specs.declared.HeldStep.{HeldStep}
 use Rattle.walk.specs.Calls.{list_out, list_of}
-use Rattle.walk.specs.declared.Listed.{Listed}
-use Rattle.walk.specs.declared.Listed.TheVariants as listed
 use Rattle.script.specs.declared.lines.Line.{Line}
 use Rattle.script.specs.declared.lines.Line.TheVariants as line
 use Rattle.print.specs.declared.lines.Making.{Making}
@@ -149,12 +148,12 @@ pub step_line_by : (b b' : List ℕ) (row : List Process) (s : StepLine) (q : Pr
 step_line_by b b' row s q h x r e f g i = rw (← f, ← e, ← g, i)
 
 -- a listing
-module _ (b list list' : List ℕ) (o : Listed) (f : list_out o list' ≡ list_of b list) where
-  pub list_count : (n x y : ℕ) → o ≡ listed.Count n → x ≡ get_or b 3 0 → y ≡ get_or b 5 0 →
+module _ (b list list' : List ℕ) (o : Result ℕ Refusal) (f : list_out o list' ≡ list_of b list) where
+  pub list_count : (n x y : ℕ) → o ≡ Ok n → x ≡ get_or b 3 0 → y ≡ get_or b 5 0 →
       ◌≡◌ {A = ListSaid} (record { said = said.Listed (record { count = n; nodes = x; records = y }); list = list' }) (list_done b list)
   list_count n x y e g i = rw (← f, e, g, i)
 
-  pub list_refused : (x : Refusal) → o ≡ listed.Refused x → ◌≡◌ {A = ListSaid} (record { said = said.Refused x; list = list' }) (list_done b list)
+  pub list_refused : (x : Refusal) → o ≡ Err x → ◌≡◌ {A = ListSaid} (record { said = said.Refused x; list = list' }) (list_done b list)
   list_refused x e = rw (← f, e)
 
 pub ruleset lists = (list_count, list_refused)

@@ -1,8 +1,9 @@
 -- Document 01, "Bench program, given whole": what one line does to the block, the row and the list of keys, and what it says.
-use Rattle.std.specs.Prelude.{ℕ, zero, suc, Bool, true, false, List, leb, replicate}
+use Rattle.std.specs.Prelude.{ℕ, zero, suc, Bool, true, false, List, leb, replicate, Result, Ok, Err}
 use Rattle.tables.specs.Choice.{pick, both}
 use Rattle.tables.specs.Header.{header_of}
 use Rattle.tables.specs.Refusal.{refusal}
+use Rattle.tables.specs.declared.numbers.Refusal.{Refusal}
 use Rattle.fresh.specs.declared.Made.{Made}
 use Rattle.fresh.specs.declared.Made.TheVariants as made
 use Rattle.process.specs.Process.{idle}
@@ -15,8 +16,6 @@ use Rattle.points.specs.declared.start.StartAnswer.TheVariants as start
 use Rattle.make.specs.Make.{make_call}
 use Rattle.index.specs.Calls.{record_of, start_call, step_call, StepOut, step_out}
 use Rattle.walk.specs.Calls.{list_of}
-use Rattle.walk.specs.declared.Listed.{Listed}
-use Rattle.walk.specs.declared.Listed.TheVariants as listed
 use Rattle.script.specs.declared.lines.Line.{Line}
 use Rattle.script.specs.declared.lines.Line.TheVariants as line
 use Rattle.print.specs.declared.lines.Making.{Making}
@@ -126,9 +125,9 @@ steps_done b row s =
     did (turn_of (steps_said s.process (record_of row s.process) o.answer) stage.Made o.row) o.block
 
 -- "The count line gives keys in the set, nodes used, records used; keys follow ascending": the keys stand in the list.
-abbrev pub list_said : List ℕ → Listed → Said
-list_said b (listed.Count n) = said.Listed (record { count = n; nodes = (header_of b).nodesused; records = (header_of b).recordsused })
-list_said b (listed.Refused e) = said.Refused e
+abbrev pub list_said : List ℕ → Result ℕ Refusal → Said
+list_said b (Ok n) = said.Listed (record { count = n; nodes = (header_of b).nodesused; records = (header_of b).recordsused })
+list_said b (Err e) = said.Refused e
 
 -- the same with the list
 pub record ListSaid : Type 0 where

@@ -7,7 +7,6 @@ ghost use Rattle.session.specs.declared.line.Stage.TheVariants.{Ended, Made as M
 
 use fresh::Made;
 use held::HeldStep;
-use index::Listed;
 use points::start::StartAnswer;
 use print::lines::{AnswerLine, CountLine, Making, StartLine, StepLine};
 use process::{Process, StepAnswer};
@@ -219,12 +218,12 @@ fn list_all(block: &[u32], list: &mut [u32]) -> Said
 {
     let listed = index::listing(block, list);
     match listed {
-        Listed::Count(n) => Said::Listed(CountLine {
+        Ok(n) => Said::Listed(CountLine {
             count: n,
             nodes: words::word_at(block, NODES_USED_AT),
             records: words::word_at(block, RECORDS_USED_AT),
         }),
-        Listed::Refused(e) => Said::Refused(e),
+        Err(e) => Said::Refused(e),
     }
 }
 

@@ -9,6 +9,7 @@ use native.Mathlib.Decide.{ℕ_discrete, dec_lt}
 use lib.Dec.{ltb, eqb}
 use lib.ListN.{length}
 use borrow.Author.Tests.{lt-ltb, le-ltb, eq-eqb, ne_eqb}
+use Rattle.std.specs.Prelude.{Result, Ok, Err}
 use Rattle.tables.specs.Choice.{pick, Reason, reason, NoneHolds, none, nor, First, either}
 use Rattle.tables.specs.Numbers.{infinity}
 use Rattle.tables.specs.Layout.{block_words, over_front}
@@ -21,8 +22,6 @@ use Rattle.tables.proofs.OneToOne.{none_accepts, first_refuses}
 use Rattle.meter.specs.Walk.{walked}
 use Rattle.meter.specs.Measure.{any_within}
 use Rattle.walk.specs.Calls.{keys_met, list_rest, list_reasons, ListOut, list_out, list_of, part_of, ClearOf, Between, range_rest, range_reasons, range_of}
-use Rattle.walk.specs.declared.Listed.TheVariants.{Count, Refused as ListRefused}
-use Rattle.walk.specs.declared.Cleared.TheVariants.{No, Yes, Refused as RangeRefused}
 use Rattle.walk.proofs.Answers.{one_listed, list_first_says, list_counts, range_first_says, Among, any_between, none_clear, clear_yes, range_between_no, yes_clear, no_between}
 use Rattle.history.proofs.Invariant.{Sound}
 use Rattle.link.specs.Tables.{tables_of}
@@ -33,16 +32,16 @@ use Rattle.survey.specs.Set.{Lists}
 use Rattle.survey.proofs.Walks.{walk_sound, walk_keys, walk_rises}
 
 -- an answer is one thing
-list_apart : (n : ℕ) (e : Refusal) (xs ys : List ℕ) → list_out (Count n) xs ≡ list_out (ListRefused e) ys → ⊥
+list_apart : (n : ℕ) (e : Refusal) (xs ys : List ℕ) → list_out (Ok n) xs ≡ list_out (Err e) ys → ⊥
 list_apart n e xs ys q = let z : ◌≡◌ {A = ℕ} 0 1 = apart (ap (λ (o : ListOut). o.listed) q) in omega arith
   where
-    apart : Count n ≡ ListRefused e → ◌≡◌ {A = ℕ} 0 1
+    apart : ◌≡◌ {A = Result ℕ Refusal} (Ok n) (Err e) → ◌≡◌ {A = ℕ} 0 1
     apart q = cc
 
-list_same : (d e : Refusal) (xs : List ℕ) → list_out (ListRefused d) xs ≡ list_out (ListRefused e) xs → e ≡ d
+list_same : (d e : Refusal) (xs : List ℕ) → list_out (Err d) xs ≡ list_out (Err e) xs → e ≡ d
 list_same d e xs q = sym (one_listed d e (ap (λ (o : ListOut). o.listed) q))
 
-cleared_same : (d e : Refusal) → RangeRefused d ≡ RangeRefused e → e ≡ d
+cleared_same : (d e : Refusal) → ◌≡◌ {A = Result Bool Refusal} (Err d) (Err e) → e ≡ d
 cleared_same d e q = cc
 
 neither : {s t : Bool} → s ≡ false → t ≡ false → either s t ≡ false
@@ -71,7 +70,7 @@ module _ {b : List ℕ} (fit : Fit (header_of b) b) (I : Sound (header_of b).k (
     list_fine : length (keys_met b) ≤ length list → NoneHolds (list_reasons b (length list))
     list_fine l = block_fine (list_rest b h (length list)) (nor unharmed (nor (le-ltb (length list) (length (keys_met b)) l) none))
 
-    pub list_answers : length (keys_met b) ≤ length list → list_of b list ≡ list_out (Count (length (keys_met b))) (over_front (keys_met b) list)
+    pub list_answers : length (keys_met b) ≤ length list → list_of b list ≡ list_out (Ok (length (keys_met b))) (over_front (keys_met b) list)
     list_answers l = list_counts b list (list_fine l)
 
     short : length list < length (keys_met b) → First 9 (list_reasons b (length list))
@@ -85,14 +84,14 @@ module _ {b : List ℕ} (fit : Fit (header_of b) b) (I : Sound (header_of b).k (
       number = refl;
     }
 
-    pub list_too_short : length list < length (keys_met b) → list_of b list ≡ list_out (ListRefused ListTooShort) list
+    pub list_too_short : length list < length (keys_met b) → list_of b list ≡ list_out (Err ListTooShort) list
     list_too_short l = list_first_says b list ListTooShort (short l)
 
     -- refused only 9, and only where the list is too short
-    pub list_refuses : (e : Refusal) → (list_of b list ≡ list_out (ListRefused e) list) ↔ ((e ≡ ListTooShort) × (length list < length (keys_met b)))
-    list_refuses e = (λ q. go q (dec_lt (length list) (length (keys_met b))), λ p. list_too_short p.1 ∙ ap (λ (d : Refusal). list_out (ListRefused d) list) (sym p.0))
+    pub list_refuses : (e : Refusal) → (list_of b list ≡ list_out (Err e) list) ↔ ((e ≡ ListTooShort) × (length list < length (keys_met b)))
+    list_refuses e = (λ q. go q (dec_lt (length list) (length (keys_met b))), λ p. list_too_short p.1 ∙ ap (λ (d : Refusal). list_out (Err d) list) (sym p.0))
       where
-        go : list_of b list ≡ list_out (ListRefused e) list → Dec (length list < length (keys_met b)) → (e ≡ ListTooShort) × (length list < length (keys_met b))
+        go : list_of b list ≡ list_out (Err e) list → Dec (length list < length (keys_met b)) → (e ≡ ListTooShort) × (length list < length (keys_met b))
         go q (yes l) = (list_same ListTooShort e list (sym (list_too_short l) ∙ q), l)
         go q (no l) = absurd (list_apart (length (keys_met b)) e (over_front (keys_met b) list) list (sym (list_answers (omega arith)) ∙ q))
 
@@ -106,7 +105,7 @@ module _ {b : List ℕ} (fit : Fit (header_of b) b) (I : Sound (header_of b).k (
 
   -- range
   module _ (low high : ℕ) where
-    pub range_infinite : (low ≡ infinity) ⊎ (high ≡ infinity) → range_of b low high ≡ RangeRefused InfinityGiven
+    pub range_infinite : (low ≡ infinity) ⊎ (high ≡ infinity) → range_of b low high ≡ Err InfinityGiven
     range_infinite i = range_first_says b low high InfinityGiven (record {
       before = block_reasons b;
       this = reason 6 (either (eqb low infinity) (eqb high infinity));
@@ -125,7 +124,7 @@ module _ {b : List ℕ} (fit : Fit (header_of b) b) (I : Sound (header_of b).k (
       finite : either (eqb low infinity) (eqb high infinity) ≡ false
       finite = neither (ne_eqb low infinity p) (ne_eqb high infinity q)
 
-      pub range_above : high < low → range_of b low high ≡ RangeRefused LowAboveHigh
+      pub range_above : high < low → range_of b low high ≡ Err LowAboveHigh
       range_above l = range_first_says b low high LowAboveHigh (record {
         before = block_reasons b ++ reason 6 (either (eqb low infinity) (eqb high infinity)) ∷ [];
         this = reason 10 (ltb high low);
@@ -140,10 +139,10 @@ module _ {b : List ℕ} (fit : Fit (header_of b) b) (I : Sound (header_of b).k (
         range_fine : NoneHolds (range_reasons b low high)
         range_fine = block_fine (range_rest b h low high) (nor finite (nor (le-ltb high low l) (nor unharmed none)))
 
-        pub range_yes : (range_of b low high ≡ Yes) ↔ ClearOf (Has b) low high
+        pub range_yes : (range_of b low high ≡ Ok true) ↔ ClearOf (Has b) low high
         range_yes = (λ e x u v s. (yes_clear b low high e).1 x u v ((walk_keys fit I x).1 s), λ c. clear_yes b low high range_fine (λ x u v m. c x u v ((walk_keys fit I x).0 m)))
 
-        pub range_no : (range_of b low high ≡ No) ↔ Between (Has b) low high
+        pub range_no : (range_of b low high ≡ Ok false) ↔ Between (Has b) low high
         range_no = (λ e. out (no_between b low high e).1, λ i. range_between_no b low high range_fine (into i))
           where
             out : Between (Among (keys_met b)) low high → Between (Has b) low high
@@ -152,24 +151,24 @@ module _ {b : List ℕ} (fit : Fit (header_of b) b) (I : Sound (header_of b).k (
             into : Between (Has b) low high → Between (Among (keys_met b)) low high
             into i = record { key = i.key; held = (walk_keys fit I i.key).1 i.held; from = i.from; to = i.to }
 
-        pub range_answers : (range_of b low high ≡ Yes) ⊎ (range_of b low high ≡ No)
+        pub range_answers : (range_of b low high ≡ Ok true) ⊎ (range_of b low high ≡ Ok false)
         range_answers = go (any_within low high (keys_met b)) refl
           where
-            go : (t : Bool) → any_within low high (keys_met b) ≡ t → (range_of b low high ≡ Yes) ⊎ (range_of b low high ≡ No)
+            go : (t : Bool) → any_within low high (keys_met b) ≡ t → (range_of b low high ≡ Ok true) ⊎ (range_of b low high ≡ Ok false)
             go true e = inr (range_between_no b low high range_fine (any_between low high (keys_met b) e))
             go false e = inl (clear_yes b low high range_fine (none_clear low high (keys_met b) e))
 
     -- refused only 6, for an end that is infinity, and 10, for low above high
-    pub range_refuses : (e : Refusal) → range_of b low high ≡ RangeRefused e
+    pub range_refuses : (e : Refusal) → range_of b low high ≡ Err e
         → ((e ≡ InfinityGiven) × ((low ≡ infinity) ⊎ (high ≡ infinity))) ⊎ ((e ≡ LowAboveHigh) × (high < low))
     range_refuses e z = go (ℕ_discrete low infinity) (ℕ_discrete high infinity) (dec_lt high low)
       where
         infinite : (low ≡ infinity) ⊎ (high ≡ infinity) → ((e ≡ InfinityGiven) × ((low ≡ infinity) ⊎ (high ≡ infinity))) ⊎ ((e ≡ LowAboveHigh) × (high < low))
         infinite i = inl (cleared_same InfinityGiven e (sym (range_infinite i) ∙ z), i)
 
-        never : (range_of b low high ≡ Yes) ⊎ (range_of b low high ≡ No) → ⊥
-        never (inl y) = let v : Yes ≡ RangeRefused e = sym y ∙ z in let n : ◌≡◌ {A = ℕ} 0 1 = cc in omega arith
-        never (inr y) = let v : No ≡ RangeRefused e = sym y ∙ z in let n : ◌≡◌ {A = ℕ} 0 1 = cc in omega arith
+        never : (range_of b low high ≡ Ok true) ⊎ (range_of b low high ≡ Ok false) → ⊥
+        never (inl y) = let v : ◌≡◌ {A = Result Bool Refusal} (Ok true) (Err e) = sym y ∙ z in let n : ◌≡◌ {A = ℕ} 0 1 = cc in omega arith
+        never (inr y) = let v : ◌≡◌ {A = Result Bool Refusal} (Ok false) (Err e) = sym y ∙ z in let n : ◌≡◌ {A = ℕ} 0 1 = cc in omega arith
 
         go : Dec (low ≡ infinity) → Dec (high ≡ infinity) → Dec (high < low) → ((e ≡ InfinityGiven) × ((low ≡ infinity) ⊎ (high ≡ infinity))) ⊎ ((e ≡ LowAboveHigh) × (high < low))
         go (yes p) d l = infinite (inl p)

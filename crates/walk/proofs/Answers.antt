@@ -7,6 +7,7 @@ use mathlib.Core.List.{List, [], ◌∷◌, Memᴰ}
 use native.Mathlib.Omega.{arith}
 use borrow.Author.Tests.{le-leb}
 use lib.ListN.{length, take}
+use Rattle.std.specs.Prelude.{Result, Ok, Err}
 use Rattle.tables.specs.Choice.{pick, both, either, within, Verdict, refused, accepted, verdict, told, NoneHolds, First}
 use Rattle.tables.specs.Refusal.{number_of, refusal}
 use Rattle.tables.specs.Layout.{over_front}
@@ -17,13 +18,9 @@ use Rattle.meter.specs.Measure.{any_within}
 use Rattle.walk.specs.Answer.{answered, refused_by, listed_says, cleared_says, cleared}
 use Rattle.walk.specs.Calls.{keys_met, list_reasons, ListOut, list_out, list_of, part_of, ClearOf, Between, range_reasons, range_of}
 use Rattle.walk.specs.Parts.{filled_of}
-use Rattle.walk.specs.declared.Listed.{Listed}
-use Rattle.walk.specs.declared.Listed.TheVariants.{Count, Refused as ListRefused}
-use Rattle.walk.specs.declared.Cleared.{Cleared}
-use Rattle.walk.specs.declared.Cleared.TheVariants.{No, Yes, Refused as RangeRefused}
 use Rattle.walk.proofs.Calling.{part_is}
 
-pub one_listed : (d e : Refusal) → ListRefused d ≡ ListRefused e → d ≡ e
+pub one_listed : (d e : Refusal) → ◌≡◌ {A = Result ℕ Refusal} (Err d) (Err e) → d ≡ e
 one_listed d e q = cc
 
 -- two answers that say the same are the same
@@ -36,22 +33,22 @@ said_refusal d e f = sym (refusal_number d) ∙ ap refusal (let z : number_of d 
 said_apart : (m n : ℕ) → answered m ≡ refused_by n → ⊥
 said_apart m n e = let z : ◌≡◌ {A = ℕ} 0 1 = cc in omega arith
 
-pub listed_one : (x y : Listed) → listed_says x ≡ listed_says y → x ≡ y
-listed_one (Count m) (Count n) e = ap Count (said_answer m n e)
-listed_one (Count m) (ListRefused d) e = absurd (said_apart m (number_of d) e)
-listed_one (ListRefused d) (Count n) e = absurd (said_apart n (number_of d) (sym e))
-listed_one (ListRefused d) (ListRefused f) e = ap ListRefused (said_refusal d f e)
+pub listed_one : (x y : Result ℕ Refusal) → listed_says x ≡ listed_says y → x ≡ y
+listed_one (Ok m) (Ok n) e = ap Ok (said_answer m n e)
+listed_one (Ok m) (Err d) e = absurd (said_apart m (number_of d) e)
+listed_one (Err d) (Ok n) e = absurd (said_apart n (number_of d) (sym e))
+listed_one (Err d) (Err f) e = ap Err (said_refusal d f e)
 
-pub cleared_one : (x y : Cleared) → cleared_says x ≡ cleared_says y → x ≡ y
-cleared_one No No e = refl
-cleared_one No Yes e = absurd (let z : ◌≡◌ {A = ℕ} 0 1 = said_answer 0 1 e in omega arith)
-cleared_one No (RangeRefused d) e = absurd (said_apart 0 (number_of d) e)
-cleared_one Yes No e = absurd (let z : ◌≡◌ {A = ℕ} 0 1 = said_answer 0 1 (sym e) in omega arith)
-cleared_one Yes Yes e = refl
-cleared_one Yes (RangeRefused d) e = absurd (said_apart 1 (number_of d) e)
-cleared_one (RangeRefused d) No e = absurd (said_apart 0 (number_of d) (sym e))
-cleared_one (RangeRefused d) Yes e = absurd (said_apart 1 (number_of d) (sym e))
-cleared_one (RangeRefused d) (RangeRefused f) e = ap RangeRefused (said_refusal d f e)
+pub cleared_one : (x y : Result Bool Refusal) → cleared_says x ≡ cleared_says y → x ≡ y
+cleared_one (Ok false) (Ok false) e = refl
+cleared_one (Ok false) (Ok true) e = absurd (let z : ◌≡◌ {A = ℕ} 0 1 = said_answer 0 1 e in omega arith)
+cleared_one (Ok false) (Err d) e = absurd (said_apart 0 (number_of d) e)
+cleared_one (Ok true) (Ok false) e = absurd (let z : ◌≡◌ {A = ℕ} 0 1 = said_answer 0 1 (sym e) in omega arith)
+cleared_one (Ok true) (Ok true) e = refl
+cleared_one (Ok true) (Err d) e = absurd (said_apart 1 (number_of d) e)
+cleared_one (Err d) (Ok false) e = absurd (said_apart 0 (number_of d) (sym e))
+cleared_one (Err d) (Ok true) e = absurd (said_apart 1 (number_of d) (sym e))
+cleared_one (Err d) (Err f) e = ap Err (said_refusal d f e)
 
 pub cleared_number : (n : ℕ) → n ≤ 1 → cleared_says (cleared n) ≡ answered n
 cleared_number zero p = refl
@@ -61,31 +58,31 @@ cleared_number (suc (suc n)) p = absurd (omega arith)
 -- listing: refused n exactly when a reason n holds and none before it
 module _ (b list : List ℕ) where
   abbrev full : ListOut
-  full = list_out (Count (length (keys_met b))) (over_front (keys_met b) list)
+  full = list_out (Ok (length (keys_met b))) (over_front (keys_met b) list)
 
   abbrev refusing : ℕ → ListOut
-  refusing n = list_out (ListRefused (refusal n)) list
+  refusing n = list_out (Err (refusal n)) list
 
-  never : (e : Refusal) → full ≡ list_out (ListRefused e) list → ⊥
+  never : (e : Refusal) → full ≡ list_out (Err e) list → ⊥
   never e q = let z : ◌≡◌ {A = ℕ} 0 1 = apart (ap (λ (o : ListOut). o.listed) q) in omega arith
     where
-      apart : Count (length (keys_met b)) ≡ ListRefused e → ◌≡◌ {A = ℕ} 0 1
+      apart : Ok (length (keys_met b)) ≡ Err e → ◌≡◌ {A = ℕ} 0 1
       apart q = cc
 
-  pub list_says_first : (e : Refusal) → list_of b list ≡ list_out (ListRefused e) list → First (number_of e) (list_reasons b (length list))
+  pub list_says_first : (e : Refusal) → list_of b list ≡ list_out (Err e) list → First (number_of e) (list_reasons b (length list))
   unfolding both
   list_says_first e =
-      answers_first (λ d. list_out (ListRefused d) list) full (list_reasons b (length list)) e
+      answers_first (λ d. list_out (Err d) list) full (list_reasons b (length list)) e
       (λ d q. one_listed d e (ap (λ (o : ListOut). o.listed) q)) (never e) refl
 
-  pub list_first_says : (e : Refusal) → First (number_of e) (list_reasons b (length list)) → list_of b list ≡ list_out (ListRefused e) list
-  list_first_says e = first_answers (λ d. list_out (ListRefused d) list) full (list_reasons b (length list)) e
+  pub list_first_says : (e : Refusal) → First (number_of e) (list_reasons b (length list)) → list_of b list ≡ list_out (Err e) list
+  list_first_says e = first_answers (λ d. list_out (Err d) list) full (list_reasons b (length list)) e
 
   -- a count is answered exactly when no reason holds; it is the count of the walk's keys, which then stand at the list's front, the rest untouched
   pub list_counts : NoneHolds (list_reasons b (length list)) → list_of b list ≡ full
   list_counts = none_accepts refusing full (list_reasons b (length list))
 
-  pub list_count : (n : ℕ) → (list_of b list).listed ≡ Count n → NoneHolds (list_reasons b (length list)) × (n ≡ length (keys_met b)) × (list_of b list ≡ full)
+  pub list_count : (n : ℕ) → (list_of b list).listed ≡ Ok n → NoneHolds (list_reasons b (length list)) × (n ≡ length (keys_met b)) × (list_of b list ≡ full)
   list_count n e = go (verdict (list_reasons b (length list))) refl
     where
       counted : list_of b list ≡ full → n ≡ length (keys_met b)
@@ -106,21 +103,21 @@ module _ (b list : List ℕ) where
 
 -- range: the same
 module _ (b : List ℕ) (low high : ℕ) where
-  abbrev yes_or_no : Cleared
+  abbrev yes_or_no : Result Bool Refusal
   yes_or_no = cleared (pick (any_within low high (keys_met b)) 0 1)
 
-  some_answer : (t : Bool) (e : Refusal) → cleared (pick t 0 1) ≡ RangeRefused e → ⊥
+  some_answer : (t : Bool) (e : Refusal) → cleared (pick t 0 1) ≡ Err e → ⊥
   unfolding pick
   some_answer true e q = let z : ◌≡◌ {A = ℕ} 0 1 = cc in omega arith
   some_answer false e q = let z : ◌≡◌ {A = ℕ} 0 1 = cc in omega arith
 
-  pub range_says_first : (e : Refusal) → range_of b low high ≡ RangeRefused e → First (number_of e) (range_reasons b low high)
+  pub range_says_first : (e : Refusal) → range_of b low high ≡ Err e → First (number_of e) (range_reasons b low high)
   unfolding both
   range_says_first e =
-      answers_first RangeRefused yes_or_no (range_reasons b low high) e (λ d q. cc) (some_answer (any_within low high (keys_met b)) e) refl
+      answers_first Err yes_or_no (range_reasons b low high) e (λ d q. cc) (some_answer (any_within low high (keys_met b)) e) refl
 
-  pub range_first_says : (e : Refusal) → First (number_of e) (range_reasons b low high) → range_of b low high ≡ RangeRefused e
-  range_first_says e = first_answers RangeRefused yes_or_no (range_reasons b low high) e
+  pub range_first_says : (e : Refusal) → First (number_of e) (range_reasons b low high) → range_of b low high ≡ Err e
+  range_first_says e = first_answers Err yes_or_no (range_reasons b low high) e
 
 -- the keys of a list, as a set
 abbrev pub Among : List ℕ → ℕ → Type 0
@@ -154,45 +151,45 @@ module _ (low high : ℕ) where
 
 -- "Clear-of-range answers yes exactly when no key of the set lies from low to high, ends included", where no reason to refuse holds
 module _ (b : List ℕ) (low high : ℕ) where
-  pub clear_yes : NoneHolds (range_reasons b low high) → ClearOf (Among (keys_met b)) low high → range_of b low high ≡ Yes
+  pub clear_yes : NoneHolds (range_reasons b low high) → ClearOf (Among (keys_met b)) low high → range_of b low high ≡ Ok true
   unfolding pick
   clear_yes n c =
-      none_accepts (λ m. RangeRefused (refusal m)) (yes_or_no b low high) (range_reasons b low high) n
+      none_accepts (λ m. Err (refusal m)) (yes_or_no b low high) (range_reasons b low high) n
       ∙ ap (λ (t : Bool). cleared (pick t 0 1)) (clear_none low high (keys_met b) c)
 
-  pub range_between_no : NoneHolds (range_reasons b low high) → Between (Among (keys_met b)) low high → range_of b low high ≡ No
+  pub range_between_no : NoneHolds (range_reasons b low high) → Between (Among (keys_met b)) low high → range_of b low high ≡ Ok false
   unfolding pick
   range_between_no n i =
-      none_accepts (λ m. RangeRefused (refusal m)) (yes_or_no b low high) (range_reasons b low high) n
+      none_accepts (λ m. Err (refusal m)) (yes_or_no b low high) (range_reasons b low high) n
       ∙ ap (λ (t : Bool). cleared (pick t 0 1)) (between_any low high i.key (keys_met b) i.held i.from i.to)
 
   -- what yes and no tell
-  told_range : (v : Verdict) (t : Bool) (r : Cleared) → told (λ m. RangeRefused (refusal m)) (cleared (pick t 0 1)) v ≡ r → ((e : Refusal) → r ≡ RangeRefused e → ⊥) →
+  told_range : (v : Verdict) (t : Bool) (r : Result Bool Refusal) → told (λ m. Err (refusal m)) (cleared (pick t 0 1)) v ≡ r → ((e : Refusal) → r ≡ Err e → ⊥) →
       (v ≡ accepted) × (r ≡ cleared (pick t 0 1))
   told_range accepted t r e never = (refl, sym e)
   told_range (refused m) t r e never = absurd (never (refusal m) (sym e))
 
-  answer_tells : (r : Cleared) → range_of b low high ≡ r → ((e : Refusal) → r ≡ RangeRefused e → ⊥) → NoneHolds (range_reasons b low high) × (r ≡ yes_or_no b low high)
+  answer_tells : (r : Result Bool Refusal) → range_of b low high ≡ r → ((e : Refusal) → r ≡ Err e → ⊥) → NoneHolds (range_reasons b low high) × (r ≡ yes_or_no b low high)
   answer_tells r e never =
-      let p = told_range (verdict (range_reasons b low high)) (any_within low high (keys_met b)) r (sym (tells (λ m. RangeRefused (refusal m)) (yes_or_no b low high) (range_reasons b low high)) ∙ e) never in
+      let p = told_range (verdict (range_reasons b low high)) (any_within low high (keys_met b)) r (sym (tells (λ m. Err (refusal m)) (yes_or_no b low high) (range_reasons b low high)) ∙ e) never in
       (accepted_none (range_reasons b low high) p.0, p.1)
 
-  yes_false : (t : Bool) → Yes ≡ cleared (pick t 0 1) → t ≡ false
+  yes_false : (t : Bool) → Ok true ≡ cleared (pick t 0 1) → t ≡ false
   unfolding pick
   yes_false true e = let z : ◌≡◌ {A = ℕ} 0 1 = cc in absurd (omega arith)
   yes_false false e = refl
 
-  no_true : (t : Bool) → No ≡ cleared (pick t 0 1) → t ≡ true
+  no_true : (t : Bool) → Ok false ≡ cleared (pick t 0 1) → t ≡ true
   unfolding pick
   no_true true e = refl
   no_true false e = let z : ◌≡◌ {A = ℕ} 0 1 = cc in absurd (omega arith)
 
-  pub yes_clear : range_of b low high ≡ Yes → NoneHolds (range_reasons b low high) × ClearOf (Among (keys_met b)) low high
+  pub yes_clear : range_of b low high ≡ Ok true → NoneHolds (range_reasons b low high) × ClearOf (Among (keys_met b)) low high
   yes_clear e =
-      let p = answer_tells Yes e (λ d q. let z : ◌≡◌ {A = ℕ} 0 1 = cc in omega arith) in
+      let p = answer_tells (Ok true) e (λ d q. let z : ◌≡◌ {A = ℕ} 0 1 = cc in omega arith) in
       (p.0, none_clear low high (keys_met b) (yes_false (any_within low high (keys_met b)) p.1))
 
-  pub no_between : range_of b low high ≡ No → NoneHolds (range_reasons b low high) × Between (Among (keys_met b)) low high
+  pub no_between : range_of b low high ≡ Ok false → NoneHolds (range_reasons b low high) × Between (Among (keys_met b)) low high
   no_between e =
-      let p = answer_tells No e (λ d q. let z : ◌≡◌ {A = ℕ} 0 1 = cc in omega arith) in
+      let p = answer_tells (Ok false) e (λ d q. let z : ◌≡◌ {A = ℕ} 0 1 = cc in omega arith) in
       (p.0, any_between low high (keys_met b) (no_true (any_within low high (keys_met b)) p.1))

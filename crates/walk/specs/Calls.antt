@@ -1,5 +1,5 @@
 -- Listing, its twin and range: when each is refused, and what it answers and leaves.
-use Rattle.std.specs.Prelude.{ℕ, ◌≤◌, not, List, [], ◌∷◌, ◌++◌, ltb, eqb, length}
+use Rattle.std.specs.Prelude.{ℕ, ◌≤◌, not, List, [], ◌∷◌, ◌++◌, ltb, eqb, length, Bool, Result, Ok, Err}
 use Rattle.tables.specs.Choice.{pick, either, Reason, reason, decide}
 use Rattle.tables.specs.Numbers.{infinity}
 use Rattle.tables.specs.Refusal.{refusal}
@@ -9,10 +9,7 @@ use Rattle.tables.specs.declared.header.Header.{Header}
 use Rattle.meter.specs.Walk.{walked}
 use Rattle.meter.specs.Measure.{any_within}
 use Rattle.walk.specs.Answer.{cleared}
-use Rattle.walk.specs.declared.Listed.{Listed}
-use Rattle.walk.specs.declared.Listed.TheVariants.{Count, Refused as ListRefused}
-use Rattle.walk.specs.declared.Cleared.{Cleared}
-use Rattle.walk.specs.declared.Cleared.TheVariants.{Refused as RangeRefused}
+use Rattle.tables.specs.declared.numbers.Refusal.{Refusal}
 
 -- the keys of the set, as the walk meets them
 abbrev pub keys_met : List ℕ → List ℕ
@@ -27,17 +24,17 @@ list_reasons b room = block_reasons b ++ list_rest b (header_of b) room
 
 -- what a listing answers, and the list then
 pub record ListOut : Type 0 where
-  pub listed : Listed
+  pub listed : Result ℕ Refusal
   pub list : List ℕ
 
-abbrev pub list_out : Listed → List ℕ → ListOut
+abbrev pub list_out : Result ℕ Refusal → List ℕ → ListOut
 list_out listed list = record { listed = listed; list = list }
 
 -- "The listing fills the list from its front and answers the count of keys, or its refusal .. The rest is untouched."
 abbrev pub list_of : List ℕ → List ℕ → ListOut
 list_of b list =
-    decide (list_reasons b (length list)) (λ n. list_out (ListRefused (refusal n)) list)
-    (list_out (Count (length (keys_met b))) (over_front (keys_met b) list))
+    decide (list_reasons b (length list)) (λ n. list_out (Err (refusal n)) list)
+    (list_out (Ok (length (keys_met b))) (over_front (keys_met b) list))
 
 -- "a twin call does the same and hands back the filled part of the caller's list, empty if refused"
 abbrev pub part_of : List ℕ → List ℕ → List ℕ
@@ -65,6 +62,6 @@ abbrev pub range_reasons : List ℕ → ℕ → ℕ → List Reason
 range_reasons b low high = block_reasons b ++ range_rest b (header_of b) low high
 
 -- "Clear-of-range answers yes exactly when no key of the set lies from low to high, ends included."
-abbrev pub range_of : List ℕ → ℕ → ℕ → Cleared
+abbrev pub range_of : List ℕ → ℕ → ℕ → Result Bool Refusal
 range_of b low high =
-    decide (range_reasons b low high) (λ n. RangeRefused (refusal n)) (cleared (pick (any_within low high (keys_met b)) 0 1))
+    decide (range_reasons b low high) (λ n. Err (refusal n)) (cleared (pick (any_within low high (keys_met b)) 0 1))

@@ -1,6 +1,10 @@
 -- The proof that `fill_all` keeps its contract.
-use Rattle.fill.proofs.Storing.{filled_all}
+use Rattle.std.proofs.Common.{rules, ◌∙◌}
+use Rattle.fill.proofs.Storing.{room_all, stored_walk}
 use Rattle.fill.proofs.fill_all.Goals as goal
 
 pub returns : goal.returns
-returns c = search filled_all
+returns c =
+    search rules
+    ∙ c.walk.ensures.met.stored (room_all _ _ _ c.kin_of-root.ensures (search rules) (search rules))
+    ∙ stored_walk _ _ _ c.kin_of-root.ensures _

@@ -1,10 +1,12 @@
--- The proof that `listing` keeps its contract.
-use borrow.Author.Rules.{rules}
-use Rattle.walk.proofs.Calling.{lists}
+-- A listing whose header is read, and one that is refused for it.
+use Rattle.std.proofs.lemmas.Result.{err_from_is_err_and}
+use Rattle.walk.proofs.Calling.{list_refused, list_read}
 use Rattle.walk.proofs.listing.Goals as goal
 
-pub returns-in-Good : goal.returns-in-Good
-returns-in-Good c = search (rules, lists)
+pub returns-in_err-h : goal.returns-in_err-h
+returns-in_err-h c =
+    let p = err_from_is_err_and c.from_residual.result c.from_residual.ensures.1 in
+    rw (p.1, p.2) (list_refused c.args.block.now c.args.list.now _ c.read_header.ensures _ c.in_err-h.was)
 
-pub returns-in-Refused : goal.returns-in-Refused
-returns-in-Refused c = search (rules, lists)
+pub returns : goal.returns
+returns c = list_read c.args.block.now c.args.list.now _ c.read_header.ensures _ _ _ c.in_ok-h.was c.list_good.ensures

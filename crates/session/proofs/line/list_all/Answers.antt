@@ -2,8 +2,8 @@
 use Rattle.session.proofs.Lines.{lists}
 use Rattle.session.proofs.line.list_all.Goals as goal
 
-pub returns-in-Count : goal.returns-in-Count
-returns-in-Count c = search lists
+pub returns-in-Ok : goal.returns-in-Ok
+returns-in-Ok c = search lists
 
-pub returns-in-Refused : goal.returns-in-Refused
-returns-in-Refused c = search lists
+pub returns-in-Err : goal.returns-in-Err
+returns-in-Err c = search lists

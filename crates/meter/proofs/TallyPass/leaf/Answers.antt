@@ -1,6 +1,6 @@
--- The proof that `measure_leaf` keeps its contract.
+-- The proof that `leaf` keeps its contract.
 use Rattle.meter.proofs.Measuring.{leaf_measured}
-use Rattle.meter.proofs.measure_leaf.Goals as goal
+use Rattle.meter.proofs.TallyPass.leaf.Goals as goal
 
 pub returns : goal.returns
 returns c = search leaf_measured
