@@ -7,12 +7,12 @@ use native.Mathlib.Omega.{arith}
 use lib.Dec.{ltb}
 use lib.ListN.{length}
 use borrow.Author.Tests.{ltb-false}
+use Rattle.std.specs.Prelude.{Ok, Err}
 use Rattle.tables.specs.Choice.{pick}
 use Rattle.tables.specs.Numbers.{k_stored, numbers_good}
 use Rattle.tables.specs.Refusal.{refusal}
 use Rattle.tables.specs.Layout.{block_words}
 use Rattle.fresh.specs.Fresh.{fresh_header}
-use Rattle.fresh.specs.declared.Made.TheVariants.{Done, Refused}
 use Rattle.process.specs.declared.Process.{Process}
 use Rattle.make.specs.Make.{make_call}
 use Rattle.link.specs.Events.{Event, AllProper, State, state_at, fresh_state}
@@ -34,10 +34,10 @@ module _ (b : List ℕ) (row : List Process) (k processes nodes records : ℕ) {
       all : Claim fresh es
       all = claimed (reached_fresh k processes nodes records b row f g h proper)
 
-  refuses : (n : ℕ) → Refused (refusal n) ≡ Done → ⊥
+  refuses : (n : ℕ) → Err (refusal n) ≡ (Ok tt) → ⊥
   refuses n e = let z : ◌≡◌ {A = ℕ} 0 1 = cc in omega arith
 
-  pub demand_3 : (make_call b row k processes nodes records).answer ≡ Done → Demand (made b row k processes nodes records) es
+  pub demand_3 : (make_call b row k processes nodes records).answer ≡ (Ok tt) → Demand (made b row k processes nodes records) es
   unfolding make_call pick
   demand_3 e = go (numbers_good (k_stored k) processes nodes records) refl (ltb (length b) (block_words (fresh_header k processes nodes records))) refl (ltb (length row) processes) refl
     where

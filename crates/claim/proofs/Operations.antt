@@ -8,16 +8,16 @@ use native.Mathlib.Omega.{arith}
 use native.Mathlib.Decide.{ℕ_discrete, dec_lt}
 use lib.Dec.{eqb}
 use borrow.Author.Tests.{eqb-true}
+use Rattle.std.specs.Prelude.{Ok}
 use Rattle.tables.specs.Choice.{pick}
 use Rattle.tables.proofs.Picks.{both_1, both_2}
 use Rattle.process.specs.declared.Process.{Process}
 use Rattle.process.specs.declared.Answer.{Answer}
-use Rattle.process.specs.declared.StepAnswer.TheVariants.{GoesOn, Ended}
+use Rattle.process.specs.declared.Progress.TheVariants.{GoesOn, Ended}
 use Rattle.process.specs.declared.Stepped.{Stepped}
 use Rattle.process.specs.Process.{started_as}
 use Rattle.process.specs.Answer.{going_on}
 use Rattle.points.specs.Rows.{row_of}
-use Rattle.points.specs.declared.start.StartAnswer.TheVariants.{Accepted}
 use Rattle.index.specs.Calls.{StepOut}
 use Rattle.history.specs.View.{In}
 use Rattle.history.specs.Shared.{Desc, Shared, Stands, stands_replace, stands_prune}
@@ -58,7 +58,7 @@ module _ (s : State) (es : List Event) where
             key = x;
             started = record {
               event = z ∙ ap (λ (y : ℕ). start y o x) same;
-              accepted = subst (λ (y : ℕ). (start_in (state_at s es i) y o x).answer ≡ Accepted) same (accepts (start_in (state_at s es i) p o x).answer (both_2 (eqb p n) (is_accepted (start_in (state_at s es i) p o x).answer) f));
+              accepted = subst (λ (y : ℕ). (start_in (state_at s es i) y o x).answer ≡ (Ok tt)) same (accepts (start_in (state_at s es i) p o x).answer (both_2 (eqb p n) (is_accepted (start_in (state_at s es i) p o x).answer) f));
             };
             starts_it = e;
           }
@@ -222,7 +222,7 @@ module _ {s : State} {es : List Event} (reached : Reached s es) where
           says = subst (λ (q : ℕ). (step_in (W m) q).answer ≡ Ended a c) (sym same) x.answer
 
           on : (q : Process) → (row_of (block_at s es m) (header_at s es m) p (taken (W m) p)).stepped ≡ going_on q → ⊥
-          on q r = let v : GoesOn ≡ Ended a c = sym (ap (λ (o : StepOut). o.answer) e ∙ ap (λ (o : Stepped). o.answer) r) ∙ says in let w : ◌≡◌ {A = ℕ} 0 1 = cc in omega arith
+          on q r = let v : (Ok GoesOn) ≡ Ended a c = sym (ap (λ (o : StepOut). o.answer) e ∙ ap (λ (o : Stepped). o.answer) r) ∙ says in let w : ◌≡◌ {A = ℕ} 0 1 = cc in omega arith
 
           own : taken (W (suc m)) p ≡ (row_of (block_at s es m) (header_at s es m) p (taken (W m) p)).stepped.process
           own =

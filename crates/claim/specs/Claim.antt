@@ -13,8 +13,7 @@ use Rattle.tables.specs.declared.numbers.Refusal.TheVariants.{ListTooShort}
 use Rattle.process.specs.declared.Process.{Process}
 use Rattle.process.specs.declared.Answer.{Answer}
 use Rattle.process.specs.declared.Answer.TheVariants.{No, Yes, Full}
-use Rattle.process.specs.declared.StepAnswer.TheVariants as steps
-use Rattle.points.specs.declared.start.StartAnswer.TheVariants as starts
+use Rattle.process.specs.declared.Progress.TheVariants as steps
 use Rattle.make.specs.Make.{make_call}
 use Rattle.walk.specs.Calls.{list_out, list_of, part_of, ClearOf, Between, range_of}
 use Rattle.history.specs.View.{In, route, keys, Reach, Below}
@@ -102,9 +101,9 @@ pub record SameLimits (h h' : Header) : Type 0 where
 
 pub record Claim (s : State) (es : List Event) : Type 0 where
   -- 1. No start is refused but by 4 to 7 and no step but by 4 or 8, and each only for its reason: whatever the others have done, none is damaged (3)
-  pub start_refused : (m n operation key : ℕ) (e : Refusal) → (start_in (state_at s es m) n operation key).answer ≡ starts.Refused e
+  pub start_refused : (m n operation key : ℕ) (e : Refusal) → (start_in (state_at s es m) n operation key).answer ≡ Err e
       → NoStart (state_at s es m) n operation key (number_of e)
-  pub step_refused : (m n : ℕ) (e : Refusal) → (step_in (state_at s es m) n).answer ≡ steps.Refused e → NoStep (state_at s es m) n (number_of e)
+  pub step_refused : (m n : ℕ) (e : Refusal) → (step_in (state_at s es m) n).answer ≡ Err e → NoStep (state_at s es m) n (number_of e)
   -- 2. "search order always holds" (Figure 3): a key in a leaf below child i of an internal node is one that goes by child i
   pub search_order : (m n i l x : ℕ) → Reach (header_at s es m).k (view_at s es m) n → (view_at s es m).tag n ≡ (header_at s es m).k → In (header_at s es m).k i
       → Below (header_at s es m).k (view_at s es m) ((view_at s es m).child n i) l → (view_at s es m).tag l ≢ (header_at s es m).k

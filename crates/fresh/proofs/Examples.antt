@@ -3,11 +3,11 @@ use Prim.Native.Nat.{ℕ}
 use mathlib.Core.Path.{◌≡◌, refl}
 use mathlib.Core.List.{List, [], ◌∷◌, ◌++◌}
 use lib.ListN.{replicate}
+use Rattle.std.specs.Prelude.{Ok, Err}
 use Rattle.tables.specs.Choice.{pick, both, listed}
 use Rattle.tables.specs.Numbers.{numbers_good}
 use Rattle.tables.specs.Layout.{depth_of, block_words}
 use Rattle.fresh.specs.Fresh.{fresh_header, fresh_block, make_out, make_of}
-use Rattle.std.specs.Prelude.{Ok, Err}
 use Rattle.tables.specs.declared.numbers.Refusal.TheVariants.{MakingNumber, TooShort}
 
 -- "Example: k=2, 1 process, 16 nodes, 8 records: D is 5, 155 words."

@@ -9,6 +9,7 @@ use lib.Dec.{ltb, eqb}
 use borrow.Author.Tests.{ltb-true, eqb-false, lt-ltb, le-ltb}
 use lib.ListN.{length, get_or, drop, replicate, length-append, length-replicate, get_or-replicate, replicate-append-replicate}
 use lib.Seq.{sets, set_at}
+use Rattle.std.specs.Prelude.{Ok, Err}
 use Rattle.tables.specs.Choice.{pick, none, nor}
 use Rattle.tables.specs.Refusal.{refusal}
 use Rattle.tables.specs.Numbers.{k_stored, fresh_nodes, infinity, numbers_good, node_words, key_room}
@@ -17,7 +18,6 @@ use Rattle.nodes.specs.Node.{image_word, internal_image}
 use Rattle.fresh.specs.Fresh.{fresh_header, header_image, root_image, dummy_image, fresh_block, making_reasons, make_out, make_of, written_fresh}
 use Rattle.tables.specs.Header.{header_from}
 use Rattle.tables.specs.declared.header.Header.{Header}
-use Rattle.std.specs.Prelude.{Ok, Err}
 use Rattle.tables.specs.declared.numbers.Refusal.TheVariants.{MakingNumber, TooShort}
 use Rattle.tables.proofs.Lists.{length-listed, listed_ext}
 use Rattle.tables.proofs.OneToOne.{none_accepts}

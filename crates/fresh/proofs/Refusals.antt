@@ -3,13 +3,13 @@ use Prim.Native.Nat.{ℕ}
 use mathlib.Core.Path.{◌≡◌, refl, ap}
 use mathlib.Core.List.{List}
 use native.Mathlib.Omega.{arith}
+use Rattle.std.specs.Prelude.{Result, Ok, Err}
 use Rattle.tables.specs.Choice.{both, First}
 use Rattle.tables.specs.Layout.{over_front}
 use Rattle.tables.specs.Refusal.{number_of}
 use Rattle.tables.specs.declared.numbers.Refusal.{Refusal}
 use Rattle.tables.proofs.OneToOne.{answers_first}
 use Rattle.fresh.specs.Fresh.{fresh_header, fresh_block, making_reasons, MakeOut, make_out, make_of}
-use Rattle.std.specs.Prelude.{Result, Ok, Err}
 
 pub one_made : (d e : Refusal) → ◌≡◌ {A = Result (Unit {0}) Refusal} (Err d) (Err e) → d ≡ e
 one_made d e q = cc

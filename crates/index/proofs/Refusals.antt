@@ -8,6 +8,7 @@ use native.Mathlib.Omega.{arith}
 use borrow.Author.Tests.{ltb-false, not-false}
 use lib.ListN.{length}
 use lib.Seq.{get_or-set_same, get_or-set_other}
+use Rattle.std.specs.Prelude.{Ok, Err}
 use Rattle.tables.specs.Choice.{both, within, Reason, NoneHolds, nor, First}
 use Rattle.tables.specs.Refusal.{number_of, refusal}
 use Rattle.tables.specs.Header.{header_of, block_reasons}
@@ -16,13 +17,10 @@ use Rattle.tables.proofs.Picks.{within_low, within_high}
 use Rattle.tables.proofs.OneToOne.{none_accepts, call_leaves, call_exactly}
 use Rattle.process.specs.Process.{idle, started_as}
 use Rattle.process.specs.declared.Process.{Process}
-use Rattle.process.specs.declared.StepAnswer.TheVariants as steps
 use Rattle.help.specs.Touch.{Row}
 use Rattle.points.specs.Rows.{row_of}
 use Rattle.points.specs.Step.{row_reasons, start_rest, start_reasons, step_rest, step_reasons}
-use Rattle.points.specs.declared.start.StartAnswer.TheVariants as starts
-use Rattle.points.proofs.Counted.{never_refused}
-use Rattle.points.proofs.Refusals.{one_step, one_start, not_accepted}
+use Rattle.points.proofs.Refusals.{one_err, ok_not}
 use Rattle.index.specs.Calls.{record_of, with_record, StartOut, start_out, start_call, StepOut, step_out, step_by, step_call}
 
 -- "2 for the rest, then 4": the row has a record of process n
@@ -44,18 +42,18 @@ module _ (b : List ℕ) (row : List Process) (n operation key : ℕ) where
   causes = start_reasons b (length row) n (record_of row n) operation key
 
   module _ (e : Refusal) where
-    pub start_exactly : ((start_call b row n operation key).answer ≡ starts.Refused e) ↔ First (number_of e) (start_reasons b (length row) n (record_of row n) operation key)
+    pub start_exactly : ((start_call b row n operation key).answer ≡ Err e) ↔ First (number_of e) (start_reasons b (length row) n (record_of row n) operation key)
     unfolding start_call both
-    start_exactly = call_exactly (λ (o : StartOut). o.answer) starts.Refused (λ d. start_out (starts.Refused d) row) _ causes (λ d. refl) one_start (λ g. not_accepted) refl e
+    start_exactly = call_exactly (λ (o : StartOut). o.answer) Err (λ d. start_out (Err d) row) _ causes (λ d. refl) one_err (λ g. ok_not _) refl e
 
-    pub start_keeps : (start_call b row n operation key).answer ≡ starts.Refused e → start_call b row n operation key ≡ start_out (starts.Refused e) row
+    pub start_keeps : (start_call b row n operation key).answer ≡ Err e → start_call b row n operation key ≡ start_out (Err e) row
     unfolding start_call both
-    start_keeps = call_leaves (λ (o : StartOut). o.answer) starts.Refused (λ d. start_out (starts.Refused d) row) _ causes (λ d. refl) one_start (λ g. not_accepted) refl e
+    start_keeps = call_leaves (λ (o : StartOut). o.answer) Err (λ d. start_out (Err d) row) _ causes (λ d. refl) one_err (λ g. ok_not _) refl e
 
   module _ (g : NoneHolds (start_reasons b (length row) n (record_of row n) operation key)) where
-    pub start_accepted : start_call b row n operation key ≡ start_out starts.Accepted (with_record row n (started_as operation key))
+    pub start_accepted : start_call b row n operation key ≡ start_out (Ok tt) (with_record row n (started_as operation key))
     unfolding start_call
-    start_accepted = none_accepts (λ i. start_out (starts.Refused (refusal i)) row) _ causes g
+    start_accepted = none_accepts (λ i. start_out (Err (refusal i)) row) _ causes g
 
     its_place : (1 ≤ n) × (n ≤ length row)
     its_place = in_row b (length row) n (start_rest (record_of row n) operation key) g
@@ -75,18 +73,18 @@ module _ (b : List ℕ) (row : List Process) (n : ℕ) where
   its = row_of b (header_of b) n (record_of row n)
 
   module _ (e : Refusal) where
-    pub step_exactly : ((step_call b row n).answer ≡ steps.Refused e) ↔ First (number_of e) (step_reasons b (length row) n (record_of row n))
+    pub step_exactly : ((step_call b row n).answer ≡ Err e) ↔ First (number_of e) (step_reasons b (length row) n (record_of row n))
     unfolding step_call both
-    step_exactly = call_exactly (λ (o : StepOut). o.answer) steps.Refused (λ d. step_out (steps.Refused d) b row) (step_by row n its) reasons (λ d. refl) one_step (never_refused b (length row) n (record_of row n)) refl e
+    step_exactly = call_exactly (λ (o : StepOut). o.answer) Err (λ d. step_out (Err d) b row) (step_by row n its) reasons (λ d. refl) one_err (λ g. ok_not _) refl e
 
-    pub step_keeps : (step_call b row n).answer ≡ steps.Refused e → step_call b row n ≡ step_out (steps.Refused e) b row
+    pub step_keeps : (step_call b row n).answer ≡ Err e → step_call b row n ≡ step_out (Err e) b row
     unfolding step_call both
-    step_keeps = call_leaves (λ (o : StepOut). o.answer) steps.Refused (λ d. step_out (steps.Refused d) b row) (step_by row n its) reasons (λ d. refl) one_step (never_refused b (length row) n (record_of row n)) refl e
+    step_keeps = call_leaves (λ (o : StepOut). o.answer) Err (λ d. step_out (Err d) b row) (step_by row n its) reasons (λ d. refl) one_err (λ g. ok_not _) refl e
 
   module _ (g : NoneHolds (step_reasons b (length row) n (record_of row n))) where
     pub step_accepted : step_call b row n ≡ step_by row n (row_of b (header_of b) n (record_of row n))
     unfolding step_call
-    step_accepted = none_accepts (λ i. step_out (steps.Refused (refusal i)) b row) (step_by row n its) reasons g
+    step_accepted = none_accepts (λ i. step_out (Err (refusal i)) b row) (step_by row n its) reasons g
 
     its_row : (1 ≤ n) × (n ≤ length row)
     its_row = in_row b (length row) n (step_rest b (header_of b) n (record_of row n)) g

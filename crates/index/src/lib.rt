@@ -1,14 +1,13 @@
 // The calls a driver makes: make, start and step over a lent block and a lent row of process records; listing, its twin and range over the block alone.
-// Start and step each take one record out of the row, hand it by value to the calls below, and put it back. No public one asks anything of its caller.
+// Start and step each take one record out of the row, hand it by value to the calls below, and put back what they answer; a call that is refused puts back nothing. No public one asks anything of its caller.
 #![tactic(auto)]
 
-ghost use Rattle.std.specs.Prelude.{◌≡◌, ◌-◌, get_or, set};
+ghost use Rattle.std.specs.Prelude.{◌≡◌, get_or, set, Result};
 ghost use Rattle.process.specs.Process.{idle};
 ghost use Rattle.index.specs.Calls.{start_out, start_call, step_out, step_call};
 
-use points::start::StartAnswer;
-use process::{Process, StepAnswer};
-use tables::words;
+use process::{Process, Progress};
+use tables::numbers::Refusal;
 
 // Making is proved in crate `make`, the "single calls, lent the block without the process row" in crate `walk`; all are passed on with their contracts, so that a driver names one crate.
 pub use make::make;
@@ -18,10 +17,7 @@ pub use walk::{listing, listing_part, range};
 pub fn take(row: &[Process], at: usize) -> Process
     ensures { result ≡ get_or row.now at idle }
 {
-    if at < row.len() {
-        return row[at];
-    }
-    process::idle_record()
+    row.get(at).copied().unwrap_or(Process::idle())
 }
 
 // The record is put at its place; past the row's end nothing is done.
@@ -33,23 +29,15 @@ pub fn put(row: &mut [Process], at: usize, q: Process)
     }
 }
 
-// Where the record of a process stands. For process 0 it is the first place: the call is refused, and the record put back as it was.
-fn place_of(process: u32) -> usize
-    ensures { result ≡ process - 1 }
-{
-    process.saturating_sub(1) as usize
-}
-
-// "Each accepted step does the one row of its point"; the record goes back to its place whatever the answer.
-pub fn step(block: &mut [u32], row: &mut [Process], process: u32) -> StepAnswer
+// "Each accepted step does the one row of its point". For process 0 the first record is looked at: the call is refused.
+pub fn step(block: &mut [u32], row: &mut [Process], process: u32) -> Result<Progress, Refusal>
     ensures { step_out result block.new row.new ≡ step_call block.old row.old process }
 {
     let rows = row.len() as u64;
-    let at = place_of(process);
-    let q = take(row, at);
-    let s = points::step::step(block, rows, process, q);
-    put(row, at, s.process);
-    s.answer
+    let at = process.saturating_sub(1) as usize;
+    let stepped = points::step::step(block, rows, process, take(row, at))?;
+    put(row, at, stepped.process);
+    Ok(stepped.progress)
 }
 
 // A start of a process: the block is only read.
@@ -59,13 +47,12 @@ pub fn start(
     process: u32,
     operation: u32,
     key: u32,
-) -> StartAnswer
+) -> Result<(), Refusal>
     ensures { start_out result row.new ≡ start_call block.now row.old process operation key }
 {
     let rows = row.len() as u64;
-    let at = place_of(process);
-    let q = take(row, at);
-    let s = points::start::start(block, rows, process, q, operation, key);
-    put(row, at, s.process);
-    s.answer
+    let at = process.saturating_sub(1) as usize;
+    let started = points::start::start(block, rows, process, take(row, at), operation, key)?;
+    put(row, at, started);
+    Ok(())
 }

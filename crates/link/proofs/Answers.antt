@@ -7,11 +7,12 @@ use mathlib.Core.List.{List}
 use native.Mathlib.Omega.{arith}
 use native.Mathlib.Decide.{dec_lt}
 use borrow.Author.Tests.{eq-eqb}
+use Rattle.std.specs.Prelude.{Ok, Err}
 use Rattle.tables.specs.Choice.{pick}
 use Rattle.process.specs.declared.Process.{Process}
 use Rattle.process.specs.declared.Answer.{Answer}
 use Rattle.process.specs.declared.Answer.TheVariants.{No, Yes, Full}
-use Rattle.process.specs.declared.StepAnswer.TheVariants.{GoesOn, Ended, Refused}
+use Rattle.process.specs.declared.Progress.TheVariants.{GoesOn, Ended}
 use Rattle.process.specs.declared.Stepped.{Stepped}
 use Rattle.process.specs.Answer.{steps_up}
 use Rattle.tables.specs.Refusal.{refusal}
@@ -89,14 +90,14 @@ module _ {s : State} {es : List Event} (reached : Reached s es) where
         refused : (r : ℕ) → step_in (W m) n ≡ step_refused_in (W m) r → ⊥
         refused r e = no (sym (ap (λ (o : StepOut). o.answer) e) ∙ answered.answer)
           where
-            no : Refused (refusal r) ≡ Ended a c → ⊥
+            no : Err (refusal r) ≡ Ended a c → ⊥
             no x = let z : ◌≡◌ {A = ℕ} 0 1 = cc in omega arith
 
         says : (t : Stepped) → (step_in (W m) n).answer ≡ t.answer → In (header_at s es m).processes n → q.operation ≢ 0 → i ≤ m
-            → (t.answer ≡ GoesOn) ⊎ ((x : Answer) × (t.answer ≡ Ended x (steps_up q.steps)) × Why (header_at s es m).k S i m n q x) → Told s es k m n a c
+            → (t.answer ≡ (Ok GoesOn)) ⊎ ((x : Answer) × (t.answer ≡ Ended x (steps_up q.steps)) × Why (header_at s es m).k S i m n q x) → Told s es k m n a c
         says t e u d l (inl g) = absurd (no (sym g ∙ sym e ∙ answered.answer))
           where
-            no : GoesOn ≡ Ended a c → ⊥
+            no : (Ok GoesOn) ≡ Ended a c → ⊥
             no x = let z : ◌≡◌ {A = ℕ} 0 1 = cc in omega arith
         says t e u d l (inr g) =
             let z = ended_one g.0 a (steps_up q.steps) c (sym g.1 ∙ sym e ∙ answered.answer) in

@@ -7,6 +7,8 @@ use mathlib.Core.List.{List}
 use native.Mathlib.Omega.{arith}
 use native.Mathlib.Decide.{ℕ_discrete}
 use lib.Dec.{eqb}
+use Rattle.std.specs.Prelude.{Result, Ok, Err}
+use Rattle.tables.specs.declared.numbers.Refusal.{Refusal}
 use Rattle.tables.proofs.Picks.{both_2}
 use Rattle.process.specs.declared.Process.{Process}
 use Rattle.process.specs.declared.Answer.{Answer}
@@ -14,8 +16,6 @@ use Rattle.process.specs.declared.Stepped.{Stepped}
 use Rattle.process.specs.Process.{started_as}
 use Rattle.process.specs.Answer.{steps_up}
 use Rattle.points.specs.Rows.{row_of}
-use Rattle.points.specs.declared.start.StartAnswer.{StartAnswer}
-use Rattle.points.specs.declared.start.StartAnswer.TheVariants.{Accepted, Refused}
 use Rattle.index.specs.Calls.{StepOut}
 use Rattle.link.specs.Events.{Event, State, taken, state_at, block_at, header_at, is_accepted, starts}
 use Rattle.link.specs.Operations.{Started, Answered}
@@ -24,9 +24,9 @@ use Rattle.link.proofs.Keeps.{Kept, goes, stops, kept}
 use Rattle.link.proofs.Outcomes.{Outcome, nothing, begun, moved, outcome}
 use Rattle.link.proofs.Clauses.{Reached, good}
 
-pub accepts : (a : StartAnswer) → is_accepted a ≡ true → a ≡ Accepted
-accepts Accepted e = refl
-accepts (Refused x) e = let z : ◌≡◌ {A = ℕ} 0 1 = cc in absurd (omega arith)
+pub accepts : (a : Result (Unit {0}) Refusal) → is_accepted a ≡ true → a ≡ (Ok tt)
+accepts (Ok tt) e = refl
+accepts (Err x) e = let z : ◌≡◌ {A = ℕ} 0 1 = cc in absurd (omega arith)
 
 module _ {s : State} {es : List Event} (reached : Reached s es) where
   abbrev W : ℕ → State

@@ -7,6 +7,7 @@ use native.Mathlib.Omega.{arith}
 use lib.Dec.{eqb}
 use lib.ListN.{length, get_or, set}
 use lib.Seq.{sets, get_or-set_other}
+use Rattle.std.specs.Prelude.{Err}
 use Rattle.tables.specs.Choice.{pick, Reason, Verdict, refused, accepted, verdict, told}
 use Rattle.tables.specs.Numbers.{node_words, record_words}
 use Rattle.tables.specs.Layout.{block_words, node_at, record_at, node_word, pending_place, tag_word}
@@ -21,7 +22,6 @@ use Rattle.tables.proofs.Lists.{length-listed}
 use Rattle.tables.proofs.OneToOne.{tells, accepted_none}
 use Rattle.tables.proofs.Places.{place_below, run_outside}
 use Rattle.process.specs.declared.Process.{Process}
-use Rattle.process.specs.declared.StepAnswer.TheVariants.{Refused}
 use Rattle.draws.specs.declared.Job.{Job}
 use Rattle.draws.specs.Draw.{new_node, new_record, sprouts, needed_nodes, new_keys, new_count, leaf_drawn, leaves_from, sprout_leaves, sprout_drawn, nodes_drawn, record_image, record_drawn, committed, replace_drawn, prune_drawn}
 use Rattle.draws.proofs.After.{Room, room_is, stem_image}
@@ -138,7 +138,7 @@ module _ (b : List ℕ) (row : List Process) (n : ℕ) where
       reasons = step_reasons b (length row) n (record_of row n)
 
       refuse : ℕ → StepOut
-      refuse r = step_out (Refused (refusal r)) b row
+      refuse r = step_out (Err (refusal r)) b row
 
       done : StepOut
       done = step_by row n (row_of b (header_of b) n (record_of row n))

@@ -9,6 +9,7 @@ use native.Mathlib.Decide.{ℕ_discrete}
 use lib.Dec.{ltb}
 use lib.ListN.{length}
 use borrow.Author.Tests.{le-ltb, le-leb, eq-eqb, ne_eqb}
+use Rattle.std.specs.Prelude.{Ok, Err}
 use Rattle.tables.specs.Choice.{pick, within}
 use Rattle.tables.specs.Numbers.{infinity, numbers_good}
 use Rattle.tables.specs.Layout.{block_words}
@@ -19,10 +20,8 @@ use Rattle.tables.proofs.Picks.{within_low, within_high, both_is}
 use Rattle.tables.proofs.Limits.{Limits}
 use Rattle.process.specs.declared.Process.{Process}
 use Rattle.process.specs.Process.{started_as}
-use Rattle.process.specs.declared.StepAnswer.TheVariants.{Refused}
 use Rattle.points.specs.Rows.{row_of}
 use Rattle.points.specs.Step.{sound_step}
-use Rattle.points.specs.declared.start.StartAnswer.TheVariants as starts
 use Rattle.index.specs.Calls.{with_record, StartOut, start_out, start_call, StepOut, step_out, step_by, step_call}
 use Rattle.history.specs.View.{In}
 use Rattle.link.specs.Events.{State, taken, start_in, step_in}
@@ -41,16 +40,16 @@ limits_good {h} l =
 
 -- what the calls leave: a step refused, or done; a start refused, or accepted
 abbrev pub step_refused_in : State → ℕ → StepOut
-step_refused_in s r = step_out (Refused (refusal r)) s.block s.row
+step_refused_in s r = step_out (Err (refusal r)) s.block s.row
 
 abbrev pub step_done_in : State → ℕ → StepOut
 step_done_in s n = step_by s.row n (row_of s.block (header_of s.block) n (taken s n))
 
 abbrev pub start_refused_in : State → ℕ → StartOut
-start_refused_in s r = start_out (starts.Refused (refusal r)) s.row
+start_refused_in s r = start_out (Err (refusal r)) s.row
 
 abbrev pub start_done_in : State → ℕ → ℕ → ℕ → StartOut
-start_done_in s n operation key = start_out starts.Accepted (with_record s.row n (started_as operation key))
+start_done_in s n operation key = start_out (Ok tt) (with_record s.row n (started_as operation key))
 
 -- the state with another block, and the record of one process put back
 abbrev pub put_back : State → List ℕ → ℕ → Process → State

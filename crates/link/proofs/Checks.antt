@@ -6,6 +6,7 @@ use mathlib.Core.List.{List}
 use native.Mathlib.Omega.{arith}
 use lib.Dec.{leb}
 use borrow.Author.Tests.{lt-ltb, le-ltb, le-leb, eq-eqb}
+use Rattle.std.specs.Prelude.{Some}
 use Rattle.tables.specs.Choice.{pick, both, within}
 use Rattle.tables.specs.Numbers.{infinity}
 use Rattle.tables.specs.Layout.{tag_word, record_word, l_field, p_field, third_field, expected_field, process_field, operation_field, key_field}
@@ -13,7 +14,6 @@ use Rattle.nodes.specs.Pending.{word_of, pending_of, record_of_kind, pending_goo
 use Rattle.nodes.specs.Node.{kin_of_tag, kin_of, below_of, is_node, is_internal, is_leaf}
 use Rattle.tables.specs.declared.header.Header.{Header}
 use Rattle.nodes.specs.declared.node.Kin.TheVariants.{Leaf, Internal}
-use Rattle.nodes.specs.declared.node.Child.TheVariants.{Node}
 use Rattle.nodes.specs.declared.pending.Pending.{Pending}
 use Rattle.nodes.specs.declared.pending.Pending.TheVariants.{Clean, Replace, Prune, Mark}
 use Rattle.nodes.proofs.Written.{pending_word_lem}
@@ -83,15 +83,15 @@ module _ (b : List ℕ) (h : Header) where
   unfolding pick
   kin_leaf n l = rw (lt-ltb (tag_word b h n) h.k l) refl
 
-  pub kin_is : (n : ℕ) → In h.nodesused n → tag_word b h n ≤ h.k → kin_of b h n ≡ Node (kin_of_tag h n (tag_word b h n))
+  pub kin_is : (n : ℕ) → In h.nodesused n → tag_word b h n ≤ h.k → kin_of b h n ≡ Some (kin_of_tag h n (tag_word b h n))
   unfolding pick
   kin_is n i l = rw (good_tag_lem n i l) refl
 
   pub inner_good : (n : ℕ) → In h.nodesused n → tag_word b h n ≡ h.k → is_internal (kin_of b h n) ≡ true
-  inner_good n i e = ap is_internal (kin_is n i (omega arith) ∙ ap Node (kin_internal n e))
+  inner_good n i e = ap is_internal (kin_is n i (omega arith) ∙ ap Some (kin_internal n e))
 
   pub leaf_good : (n : ℕ) → In h.nodesused n → tag_word b h n < h.k → is_leaf (kin_of b h n) ≡ true
-  leaf_good n i l = ap is_leaf (kin_is n i (omega arith) ∙ ap Node (kin_leaf n l))
+  leaf_good n i l = ap is_leaf (kin_is n i (omega arith) ∙ ap Some (kin_leaf n l))
 
   pub node_good_lem : (n : ℕ) → In h.nodesused n → tag_word b h n ≤ h.k → is_node (kin_of b h n) ≡ true
   node_good_lem n i l = ap is_node (kin_is n i l)

@@ -5,13 +5,14 @@ use mathlib.Core.Logic.{◌≢◌, ◌⊎◌, inl, inr}
 use mathlib.Core.List.{List, Memᴰ}
 use native.Mathlib.Omega.{arith}
 use lib.ListN.{length}
+use Rattle.std.specs.Prelude.{Ok, Err}
 use Rattle.tables.specs.Refusal.{number_of, refusal}
 use Rattle.tables.specs.declared.header.Header.{Header}
 use Rattle.tables.specs.declared.numbers.Refusal.{Refusal}
 use Rattle.tables.specs.declared.numbers.Refusal.TheVariants.{NoSuchProcess, Idle}
 use Rattle.process.specs.declared.Process.{Process}
 use Rattle.process.specs.declared.Answer.{Answer}
-use Rattle.process.specs.declared.StepAnswer.TheVariants.{GoesOn, Ended, Refused}
+use Rattle.process.specs.declared.Progress.TheVariants.{GoesOn, Ended}
 use Rattle.process.specs.declared.Stepped.{Stepped}
 use Rattle.process.specs.Answer.{steps_up}
 use Rattle.points.specs.Rows.{row_of}
@@ -40,7 +41,7 @@ use Rattle.link.proofs.Beginning.{Settled, good_settled}
 
 -- a step of a busy process goes on or ends
 pub stepped_says : {hs : ℕ → Header} {bs : ℕ → List ℕ} {i j n : ℕ} {h' : Header} {b' : List ℕ} {q : Process} {s : Stepped} → Follows hs bs i j n h' b' q s
-    → (s.answer ≡ GoesOn) ⊎ ((a : Answer) × (s.answer ≡ Ended a (steps_up q.steps)) × Why (hs j).k (tables hs bs) i j n q a)
+    → (s.answer ≡ (Ok GoesOn)) ⊎ ((a : Answer) × (s.answer ≡ Ended a (steps_up q.steps)) × Why (hs j).k (tables hs bs) i j n q a)
 stepped_says (already q' e fr x v y z) = inl (ap (λ (t : Stepped). t.answer) e)
 stepped_says (afterwards q' e fr x v y l z) = inl (ap (λ (t : Stepped). t.answer) e)
 stepped_says (answers a e fr w) = inr (a, ap (λ (t : Stepped). t.answer) e, w)
@@ -117,16 +118,16 @@ module _ {s : State} {es : List Event} (reached : Reached s es) where
   sound m = sound_at hk (run m) sound₀ m (omega arith)
 
   -- 1. A call is refused only where there is no such process, for a step of an idle one, or for what is given to a start.
-  pub step_refused : (m n : ℕ) (e : Refusal) → (step_in (W m) n).answer ≡ Refused e → NoStep (W m) n (number_of e)
+  pub step_refused : (m n : ℕ) (e : Refusal) → (step_in (W m) n).answer ≡ Err e → NoStep (W m) n (number_of e)
   step_refused m n e z = go (calls.step_goes (W m) (good m).now.fit (good m).rows n)
     where
-      same : (d : Refusal) → (step_in (W m) n).answer ≡ Refused d → number_of e ≡ number_of d
+      same : (d : Refusal) → (step_in (W m) n).answer ≡ Err d → number_of e ≡ number_of d
       same d x = ap number_of (sym (one_step d e (sym x ∙ z)))
 
-      says : (t : Stepped) → (step_in (W m) n).answer ≡ t.answer → (t.answer ≡ GoesOn) ⊎ ((a : Answer) × (t.answer ≡ Ended a (steps_up (taken (W m) n).steps)) × Why (hs m).k S (since_at s es n m) m n (taken (W m) n) a) → ⊥
-      says t x (inl g) = let v : GoesOn ≡ Refused e = sym g ∙ sym x ∙ z in let w : ◌≡◌ {A = ℕ} 0 1 = cc in omega arith
+      says : (t : Stepped) → (step_in (W m) n).answer ≡ t.answer → (t.answer ≡ (Ok GoesOn)) ⊎ ((a : Answer) × (t.answer ≡ Ended a (steps_up (taken (W m) n).steps)) × Why (hs m).k S (since_at s es n m) m n (taken (W m) n) a) → ⊥
+      says t x (inl g) = let v : (Ok GoesOn) ≡ Err e = sym g ∙ sym x ∙ z in let w : ◌≡◌ {A = ℕ} 0 1 = cc in omega arith
       says t x (inr g) =
-          let v : Ended g.0 (steps_up (taken (W m) n).steps) ≡ Refused e = sym g.1 ∙ sym x ∙ z in
+          let v : Ended g.0 (steps_up (taken (W m) n).steps) ≡ Err e = sym g.1 ∙ sym x ∙ z in
           let w : ◌≡◌ {A = ℕ} 0 1 = cc in omega arith
 
       go : calls.Step (W m) (good m).now.fit (good m).rows n → NoStep (W m) n (number_of e)

@@ -4,18 +4,18 @@ use mathlib.Core.Path.{◌≡◌, refl, sym, ap, ◌∙◌, subst}
 use mathlib.Core.Bool.{Bool, true, false}
 use mathlib.Core.List.{List}
 use lib.ListN.{length, length-set}
+use Rattle.std.specs.Prelude.{Ok, Err}
 use Rattle.tables.specs.Choice.{pick, Reason, decide, Verdict, refused, accepted, verdict, told, NoneHolds}
 use Rattle.tables.specs.Header.{header_of, header_from}
 use Rattle.tables.specs.Refusal.{refusal}
 use Rattle.tables.specs.declared.header.Header.{Header}
 use Rattle.tables.proofs.OneToOne.{tells, accepted_none}
 use Rattle.process.specs.declared.Process.{Process}
-use Rattle.process.specs.declared.StepAnswer.TheVariants as steps
+use Rattle.process.specs.declared.Progress.TheVariants as steps
 use Rattle.process.specs.Process.{started_as}
 use Rattle.draws.specs.Draw.{new_record}
 use Rattle.points.specs.Rows.{row_of}
 use Rattle.points.specs.Step.{step_reasons, start_reasons}
-use Rattle.points.specs.declared.start.StartAnswer.TheVariants as starts
 use Rattle.points.proofs.Accepted.{Accepted}
 use Rattle.points.proofs.Counted.{needed_at, draws_at}
 use Rattle.points.proofs.Touches.{step_does, step_header, step_length}
@@ -93,11 +93,11 @@ decided {A} P refuse done rs f g = subst P (sym (tells refuse done rs)) (go (ver
 pub after_constant : (s : State) (e : Event) → Constant s (after s e)
 unfolding start_call step_call
 after_constant s (start n operation key) =
-    decided (λ o. Constant s (started_to s o)) (λ r. start_out (starts.Refused (refusal r)) s.row) (start_out starts.Accepted (with_record s.row n (started_as operation key)))
+    decided (λ o. Constant s (started_to s o)) (λ r. start_out (Err (refusal r)) s.row) (start_out (Ok tt) (with_record s.row n (started_as operation key)))
     (start_reasons s.block (length s.row) n (record_of s.row n) operation key) (λ r. constant_same s)
     (λ a. record { k = refl; processes = refl; nodes = refl; records = refl; words = refl; rows = simp length-set })
 after_constant s (step n) =
-    decided (λ o. Constant s (stepped_to o)) (λ r. step_out (steps.Refused (refusal r)) s.block s.row) (step_by s.row n (row_of s.block (header_of s.block) n (record_of s.row n)))
+    decided (λ o. Constant s (stepped_to o)) (λ r. step_out (Err (refusal r)) s.block s.row) (step_by s.row n (row_of s.block (header_of s.block) n (record_of s.row n)))
     (step_reasons s.block (length s.row) n (record_of s.row n)) (λ r. constant_same s) (step_done_lem s n)
 
 -- at every moment

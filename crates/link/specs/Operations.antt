@@ -1,17 +1,16 @@
 -- Operations: an accepted start, the records drawn for it, and its answer; why a call is refused.
-use Rattle.std.specs.Prelude.{ℕ, suc, ◌+◌, ◌≡◌, ◌≢◌, List}
+use Rattle.std.specs.Prelude.{ℕ, suc, ◌+◌, ◌≡◌, ◌≢◌, List, Ok}
 use Rattle.tables.specs.Numbers.{infinity}
 use Rattle.tables.specs.Header.{header_of}
 use Rattle.process.specs.declared.Answer.{Answer}
-use Rattle.process.specs.declared.StepAnswer.TheVariants.{Ended}
-use Rattle.points.specs.declared.start.StartAnswer.TheVariants.{Accepted}
+use Rattle.process.specs.declared.Progress.TheVariants.{Ended}
 use Rattle.history.specs.View.{In}
 use Rattle.link.specs.Events.{Event, start, step, State, taken, start_in, step_in, event_at, state_at, header_at, since_at}
 
 -- event i is an accepted start of process n, of an operation and a key: it stands for the operation
 pub record Started (s : State) (es : List Event) (i n operation key : ℕ) : Type 0 where
   pub event : event_at es i ≡ start n operation key
-  pub accepted : (start_in (state_at s es i) n operation key).answer ≡ Accepted
+  pub accepted : (start_in (state_at s es i) n operation key).answer ≡ (Ok tt)
 
 -- at moment m process n is busy, and event i was its last accepted start
 pub record BusyWith (s : State) (es : List Event) (m n i : ℕ) : Type 0 where

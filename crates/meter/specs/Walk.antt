@@ -1,6 +1,6 @@
 -- "The walk goes down from node 1, children in order, always over the whole tree; a walk that meets more nodes than are in use is damaged."
-use Rattle.nodes.specs.declared.node.Kin.{Kin}
 use Rattle.std.specs.Prelude.{ℕ, zero, suc, ◌-◌, Bool, true, false, List, [], ◌++◌, eqb, Option, Some, None}
+use Rattle.nodes.specs.declared.node.Kin.{Kin}
 use Rattle.tables.specs.Choice.{pick, both}
 use Rattle.nodes.specs.Node.{kin_of, child_of}
 use Rattle.nodes.specs.Keys.{keys_of, rises}

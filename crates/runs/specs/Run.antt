@@ -1,9 +1,10 @@
 -- What is measured of a list of events from a made state: the answers, the used counts, some words, and the keys of the set.
-use Rattle.std.specs.Prelude.{ℕ, zero, suc, List, [], ◌∷◌, ◌++◌, map, length, replicate}
+use Rattle.std.specs.Prelude.{ℕ, zero, suc, List, [], ◌∷◌, ◌++◌, map, length, replicate, Result, Ok, Err}
+use Rattle.tables.specs.declared.numbers.Refusal.{Refusal}
 use Rattle.tables.specs.Layout.{node_word}
 use Rattle.process.specs.Answer.{answer_number}
-use Rattle.process.specs.declared.StepAnswer.{StepAnswer}
-use Rattle.process.specs.declared.StepAnswer.TheVariants.{GoesOn, Ended, Refused}
+use Rattle.process.specs.declared.Progress.{Progress}
+use Rattle.process.specs.declared.Progress.TheVariants.{GoesOn, Ended}
 use Rattle.walk.specs.Calls.{keys_met}
 use Rattle.link.specs.Events.{Event, start, step, State, step_in, event_at, state_at, block_at, header_at}
 
@@ -21,10 +22,10 @@ abbrev pub told : ℕ → ℕ → ℕ → Told
 told process answer steps = record { process = process; answer = answer; steps = steps }
 
 -- what a step's answer tells; a refusal is told as 9, which is no answer's number
-abbrev pub tells : ℕ → StepAnswer → List Told
-tells n GoesOn = []
-tells n (Ended a steps) = told n (answer_number a) steps ∷ []
-tells n (Refused e) = told n 9 0 ∷ []
+abbrev pub tells : ℕ → Result Progress Refusal → List Told
+tells n (Ok GoesOn) = []
+tells n (Ok (Ended a steps)) = told n (answer_number a) steps ∷ []
+tells n (Err e) = told n 9 0 ∷ []
 
 -- what an event tells
 abbrev pub tells_in : State → Event → List Told

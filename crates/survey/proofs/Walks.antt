@@ -9,13 +9,13 @@ use native.Mathlib.Decide.{ℕ_discrete}
 use lib.Dec.{eqb}
 use lib.ListN.{length, length-append}
 use borrow.Author.Tests.{lt-ltb, ne_eqb}
+use Rattle.std.specs.Prelude.{Option, Some}
+use Rattle.nodes.specs.declared.node.Kin.{Kin}
 use Rattle.tables.specs.Choice.{pick, listed}
 use Rattle.tables.specs.Layout.{tag_word, child_word}
 use Rattle.nodes.specs.Node.{kin_of, child_of}
 use Rattle.tables.specs.declared.header.Header.{Header}
 use Rattle.nodes.specs.declared.node.Kin.TheVariants.{Leaf, Internal}
-use Rattle.nodes.specs.declared.node.Child.{Child}
-use Rattle.nodes.specs.declared.node.Child.TheVariants.{Node}
 use Rattle.meter.specs.Walk.{Walk, walk, begin, spent, damaged, leaf_met, in_order, node_met, walk_of, walked}
 use Rattle.tables.proofs.Picks.{both_true}
 use Rattle.history.specs.View.{View, In, keys, Reach, top, by, Holds}
@@ -75,13 +75,13 @@ module _ {b : List ℕ} {h : Header} (fit : Fit h b) (I : Sound h.k (tables_of h
   used o = reach_used k_low I.inv.shape o
 
   -- what a node of the tree is
-  inner_is : (n : ℕ) → Reach k t n → tag_word b h n ≡ k → kin_of b h n ≡ Node (Internal n)
-  inner_is n o e = kin_is b h n (used o) (omega arith) ∙ ap Node (kin_internal b h n e)
+  inner_is : (n : ℕ) → Reach k t n → tag_word b h n ≡ k → kin_of b h n ≡ Some (Internal n)
+  inner_is n o e = kin_is b h n (used o) (omega arith) ∙ ap Some (kin_internal b h n e)
 
-  leaf_is : (n : ℕ) → Reach k t n → tag_word b h n ≢ k → kin_of b h n ≡ Node (Leaf n (tag_word b h n))
+  leaf_is : (n : ℕ) → Reach k t n → tag_word b h n ≢ k → kin_of b h n ≡ Some (Leaf n (tag_word b h n))
   leaf_is n o e =
       let l = I.inv.shape.tags n (used o) in
-      kin_is b h n (used o) l ∙ ap Node (kin_leaf b h n (omega (arith, l)))
+      kin_is b h n (used o) l ∙ ap Some (kin_leaf b h n (omega (arith, l)))
 
   child_is : (n i : ℕ) → Reach k t n → tag_word b h n ≡ k → In k i → child_of b h n i ≡ kin_of b h (child_word b h n i)
   unfolding pick
@@ -110,7 +110,7 @@ module _ {b : List ℕ} {h : Header} (fit : Fit h b) (I : Sound h.k (tables_of h
       go (yes q) y ih =
           rw (ne_eqb w.allowed 0 (λ z. omega arith), inner_is n o q)
           (order_meets (λ (i : ℕ) (v : Walk). walk_of deep b h (child_of b h n i) v) (λ (i : ℕ). keys_of k t deep (t.child n i)) (λ (i : ℕ). nodes_of k t deep (t.child n i)) k (spent w)
-          (λ i v x z. ap (λ (c : Child). walk_of deep b h c v) (child_is n i o q x)
+          (λ i v x z. ap (λ (c : Option Kin). walk_of deep b h c v) (child_is n i o q x)
           ∙ ih (child_word b h n i) v (by i o q x refl) (omega (arith, I.inv.shape.above n i (used o) q x)) z) (omega arith)
           ∙ onward_spent w _ _)
       go (no q) y ih =
