@@ -1,11 +1,8 @@
 // Drawing at 4 and 5: the new nodes and the new record, in the next free numbers, and the flag. Nothing is written where there is no room.
 #![tactic(auto, unfolding(tables::specs::Choice::pick, tables::specs::Choice::both))]
 
-ghost use Rattle.std.specs.Prelude.{◌≡◌, ◌+◌, ◌*◌, ◌≤◌, [], get_or, set};
-ghost use Rattle.std.proofs.lemmas.List.Edits.{sets};
-ghost use Rattle.tables.specs.Layout.{record_at};
-ghost use Rattle.nodes.specs.Keys.{key_array};
-ghost use Rattle.draws.specs.Draw.{puts_in, new_node as new_node_of, new_record as new_record_of, room_for, sprouts as sprouts_of, needed_nodes, new_keys, new_count, largest as largest_of, leaves_from, sprout_leaves, nodes_drawn, record_drawn, committed, draw_out, replace_of, prune_of};
+ghost use Rattle.std.specs.Prelude.{◌≡◌, ◌+◌, ◌≤◌};
+ghost use Rattle.draws.specs.Draw.{puts_in, new_node, new_record, room_for, sprouts, needed_nodes, new_keys, new_count, largest, leaves_from, sprout_leaves, nodes_drawn, record_drawn, committed, draw_out, replace_of, prune_of};
 
 use nodes::{keys, node, pending};
 use std::array;
@@ -35,13 +32,13 @@ struct Record {
 
 // The next free numbers.
 fn new_node(h: Header) -> u32
-    ensures { result ≡ new_node_of h }
+    ensures { result ≡ new_node h }
 {
     u32::from(h.nodesused) + 1
 }
 
 fn new_record(h: Header) -> u32
-    ensures { result ≡ new_record_of h }
+    ensures { result ≡ new_record h }
 {
     u32::from(h.recordsused) + 1
 }
@@ -60,7 +57,7 @@ pub fn room_for(h: Header, needed: u32) -> bool
 }
 
 fn sprouts(h: Header, operation: u32, count: u8) -> bool
-    ensures { result ≡ sprouts_of h operation count }
+    ensures { result ≡ sprouts h operation count }
 {
     puts_in(operation) && u32::from(count) + 1 == u32::from(h.k)
 }
@@ -98,7 +95,7 @@ fn new_count(operation: u32, count: u8) -> u16
 
 // "an internal node with the k−1 largest keys": ascending, they are all but the first.
 fn largest(keys: [u32; KEY_ROOM]) -> [u32; KEY_ROOM]
-    ensures { result ≡ largest_of keys }
+    ensures { result ≡ largest keys }
 {
     array::from_fn(|i| keys.get(i + 1).copied().unwrap_or(0))
 }
@@ -106,7 +103,7 @@ fn largest(keys: [u32; KEY_ROOM]) -> [u32; KEY_ROOM]
 // "k new leaves of one key each, ascending", in the numbers behind the internal node's.
 #[tactic(auto, unfolding(tables::specs::Choice::listed, crate::specs::Draw::leaves_from))]
 fn draw_leaves(block: &mut [u32], h: Header, keys: [u32; KEY_ROOM])
-    ensures { block.new ≡ leaves_from block.old h (new_node_of h + 1) (sprout_leaves h keys) }
+    ensures { block.new ≡ leaves_from block.old h (new_node h + 1) (sprout_leaves h keys) }
 {
     let leaves = keys::sprout(keys, h.k);
     let first = new_node(h) + 1;
