@@ -101,7 +101,7 @@ fn largest(keys: [u32; KEY_ROOM]) -> [u32; KEY_ROOM]
 }
 
 // "k new leaves of one key each, ascending", in the numbers behind the internal node's.
-#[tactic(auto, unfolding(tables::specs::Choice::listed, crate::specs::Draw::leaves_from))]
+#[tactic(auto, using(crate::proofs::Laws::leaf_more), unfolding(tables::specs::Choice::listed, crate::specs::Draw::leaves_from))]
 fn draw_leaves(block: &mut [u32], h: Header, keys: [u32; KEY_ROOM])
     ensures { block.new ≡ leaves_from block.old h (new_node h + 1) (sprout_leaves h keys) }
 {
@@ -131,6 +131,7 @@ fn draw_nodes(block: &mut [u32], h: Header, j: Job, count: u8)
 }
 
 // The new record: what is to be done where, and for whom.
+#[tactic(auto, using(crate::proofs::Laws::word_more))]
 fn write_record(block: &mut [u32], h: Header, r: Record)
     ensures { block.new ≡ record_drawn block.old h r.kind r.third r.expected r.job }
 {
