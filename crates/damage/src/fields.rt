@@ -9,7 +9,6 @@ use process::Process;
 use tables::header::Header;
 use tables::numbers;
 
-#[tactic(auto, unfolding(tables::specs::Choice::pick, tables::specs::Choice::both))]
 fn point_good(operation: u32, point: u32) -> bool
     ensures { result ≡ point_good operation point }
 {
@@ -45,7 +44,6 @@ fn numbers_good(h: Header, q: Process) -> bool
 }
 
 // "gp internal"; 0 as long as the search has not gone down once.
-#[tactic(auto, unfolding(tables::specs::Choice::pick))]
 fn no_or_internal(block: &[u32], h: Header, node: u32) -> bool
     ensures { result ≡ zero_or node (is_internal (kin_of block.now h node)) }
 {
@@ -53,7 +51,6 @@ fn no_or_internal(block: &[u32], h: Header, node: u32) -> bool
 }
 
 // "l a leaf"; 0 before the search has met one.
-#[tactic(auto, unfolding(tables::specs::Choice::pick))]
 fn no_or_leaf(block: &[u32], h: Header, node: u32) -> bool
     ensures { result ≡ zero_or node (is_leaf (kin_of block.now h node)) }
 {
@@ -61,7 +58,6 @@ fn no_or_leaf(block: &[u32], h: Header, node: u32) -> bool
 }
 
 // 0 until row 11 has noted a child.
-#[tactic(auto, unfolding(tables::specs::Choice::pick))]
 fn no_or_node(block: &[u32], h: Header, node: u32) -> bool
     ensures { result ≡ zero_or node (is_node (kin_of block.now h node)) }
 {
@@ -89,14 +85,12 @@ fn records_good(block: &[u32], h: Header, q: Process) -> bool
         && q.own <= u32::from(h.recordsused)
 }
 
-#[tactic(auto, unfolding(tables::specs::Choice::pick, tables::specs::Choice::both))]
 fn uses_index(point: u32) -> bool
     ensures { result ≡ uses_index point }
 {
     point == 3 || 6 <= point && point <= 7 || 11 <= point && point <= 13
 }
 
-#[tactic(auto, unfolding(tables::specs::Choice::pick))]
 fn given(used: bool, x: u32) -> bool
     ensures { result ≡ given_of used x }
 {
@@ -104,7 +98,6 @@ fn given(used: bool, x: u32) -> bool
 }
 
 // "l at 3 to 5"
-#[tactic(auto, unfolding(tables::specs::Choice::pick, tables::specs::Choice::both))]
 fn leaf_given(point: u32, l: u32) -> bool
     ensures { result ≡ given_of (within 3 point 5) l }
 {

@@ -8,7 +8,6 @@ use process::Process;
 use tables::header::Header;
 use tables::numbers;
 
-#[tactic(auto, unfolding(tables::specs::Choice::both))]
 fn owner_good(block: &[u32], h: Header, number: u32) -> bool
     ensures { result ≡ owner_good block.now h number }
 {
@@ -22,7 +21,6 @@ fn owner_good(block: &[u32], h: Header, number: u32) -> bool
         && owner <= u32::from(h.processes)
 }
 
-#[tactic(auto, unfolding(tables::specs::Choice::pick))]
 fn third_good(block: &[u32], h: Header, kind: u32, number: u32) -> bool
     ensures { result ≡ third_good block.now h kind number }
 {
@@ -35,7 +33,6 @@ fn third_good(block: &[u32], h: Header, kind: u32, number: u32) -> bool
     }
 }
 
-#[tactic(auto, unfolding(tables::specs::Choice::both))]
 fn places_good(block: &[u32], h: Header, kind: u32, number: u32) -> bool
     ensures { result ≡ places_good block.now h kind number }
 {
@@ -46,7 +43,6 @@ fn places_good(block: &[u32], h: Header, kind: u32, number: u32) -> bool
         && third_good(block, h, kind, number)
 }
 
-#[tactic(auto, unfolding(tables::specs::Choice::both))]
 fn expected_good(block: &[u32], h: Header, number: u32) -> bool
     ensures { result ≡ expected_good block.now h number }
 {
@@ -64,7 +60,6 @@ fn record_good(block: &[u32], h: Header, kind: u32, number: u32) -> bool
         && expected_good(block, h, number)
 }
 
-#[tactic(auto, unfolding(tables::specs::Choice::pick))]
 fn kind_at(point: u32) -> u32
     ensures { result ≡ kind_at point }
 {

@@ -1,3 +1,3 @@
--- The laws of drawing: return by return, and what stands in the block after it.
+-- The laws of drawing: turn by turn, and what stands in the block after it.
 pub mod Laws
 pub mod After

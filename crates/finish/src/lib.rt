@@ -1,6 +1,6 @@
 // Points 6, 7, 8 and 12, 13, 14: a child looked for and swapped, and the flag put back to clean, for whoever's record it is.
 // No public function asks anything of its caller.
-#![tactic(auto)]
+#![tactic(auto, unfolding(tables::specs::Choice::pick, tables::specs::Choice::both))]
 
 ghost use Rattle.std.specs.Prelude.{◌≡◌, true, eqb, set};
 ghost use Rattle.tables.specs.Choice.{pick, both};
@@ -16,7 +16,6 @@ use tables::header::Header;
 use tables::numbers::Refusal;
 use tables::words;
 
-#[tactic(auto, unfolding(tables::specs::Choice::pick))]
 fn looked_for(h: Header, q: Process, seen: u32, target: u32, found: u32, missed: u32) -> Process
     ensures { going_on result ≡ looked_for h q seen target found missed }
 {
@@ -50,7 +49,6 @@ fn look(
 }
 
 // The swap of one word, where it was seen as the word to be swapped.
-#[tactic(auto, unfolding(tables::specs::Choice::pick))]
 fn swap(block: &mut [u32], at: u64, seen: u32, from: u32, to: u32)
     ensures { block.new ≡ pick (eqb seen from) (set block.old at to) block.old }
 {
@@ -82,7 +80,6 @@ fn hang(
 }
 
 // The pending seen is good, and the stack top that help's end may need is a prune.
-#[tactic(auto, unfolding(tables::specs::Choice::both))]
 fn flag_sound(block: &[u32], h: Header, n: u32, q: Process, word: u32) -> bool
     ensures { result ≡ both (pending_good block.now h (pending_of word)) (top_good block.now h q.depth (top_of block.now h n q)) }
 {

@@ -1,6 +1,6 @@
 // Points 4 and 5: the flag of a new record on p's pending, or on gp's, and what is drawn for it.
 // No public function asks anything of its caller.
-#![tactic(auto)]
+#![tactic(auto, unfolding(tables::specs::Choice::pick, tables::specs::Choice::both))]
 
 ghost use Rattle.std.specs.Prelude.{◌≡◌, ◌<◌, Result};
 ghost use Rattle.nodes.specs.Pending.{word_of};
@@ -29,7 +29,6 @@ fn job_of(n: u32, q: Process) -> Job
 }
 
 // "Else help what was seen", where its stack top, if that is needed, is a prune.
-#[tactic(auto, unfolding(tables::specs::Choice::pick))]
 fn help_seen(block: &[u32], h: Header, n: u32, q: Process, word: u32) -> Result<Stepped, Refusal>
     ensures { result ≡ seen_helped block.now h n q word }
 {
@@ -43,7 +42,6 @@ fn help_seen(block: &[u32], h: Header, n: u32, q: Process, word: u32) -> Result<
 }
 
 // At 4 an l that lacks an insert's key and holds a delete's.
-#[tactic(auto, unfolding(tables::specs::Choice::pick))]
 fn held_good(operation: u32, held: bool) -> bool
     ensures { result ≡ held_good operation held }
 {
@@ -54,7 +52,6 @@ fn held_good(operation: u32, held: bool) -> bool
     }
 }
 
-#[tactic(auto, unfolding(tables::specs::Choice::both))]
 fn leaf_good(block: &[u32], h: Header, q: Process, kin: Kin) -> bool
     ensures { result ≡ leaf_good4 block.now h q kin }
 {
@@ -110,7 +107,6 @@ fn flag_gp(block: &mut [u32], h: Header, n: u32, q: Process, word: u32) -> Resul
 }
 
 // 4 with p's pending word: its leaf and that word are checked before anything is written.
-#[tactic(auto, unfolding(tables::specs::Choice::pick, tables::specs::Choice::both))]
 fn flag_leaf(
     block: &mut [u32],
     h: Header,

@@ -1,9 +1,8 @@
 // "Fresh tree (Figure 6)": making on a lent block. The one call here is total: it asks nothing of its caller and states its result and the whole block on every input.
 #![tactic(auto)]
 
-ghost use Rattle.std.specs.Prelude.{◌≡◌, ◌≤◌, [], ◌∷◌, length, replicate, Result};
+ghost use Rattle.std.specs.Prelude.{◌≡◌, Result};
 ghost use Rattle.std.proofs.lemmas.List.Edits.{sets};
-ghost use Rattle.tables.specs.Layout.{over_front};
 ghost use Rattle.fresh.specs.Fresh.{make_out, make_of, header_image, written_fresh};
 
 use nodes::node;

@@ -1,6 +1,6 @@
 // Helping: where a pending value sends a process, how help ends, and what the points of a record being helped share.
 // No public function asks anything of its caller.
-#![tactic(auto)]
+#![tactic(auto, unfolding(tables::specs::Choice::pick, tables::specs::Choice::both))]
 
 ghost use Rattle.std.specs.Prelude.{◌≡◌, ◌+◌, ◌*◌, eqb, set};
 ghost use Rattle.tables.specs.Choice.{pick};
@@ -56,7 +56,6 @@ pub fn helping(top: u32, q: Process, seen: Pending) -> Stepped
 }
 
 // A stack top that is made the record helped is a prune.
-#[tactic(auto, unfolding(tables::specs::Choice::pick))]
 pub fn top_good(block: &[u32], h: Header, depth: u32, top: u32) -> bool
     ensures { result ≡ top_good block.now h depth top }
 {
@@ -102,7 +101,6 @@ pub fn helped_third(block: &[u32], h: Header, q: Process) -> u32
 }
 
 // The swap of a node's pending from a flag of the record helped to clean with its number: a flag without its kind is that.
-#[tactic(auto, unfolding(tables::specs::Choice::pick))]
 pub fn clear_flag(block: &mut [u32], h: Header, node: u32, word: u32, helped: u32, kind: u32)
     ensures { block.new ≡ pick (eqb word (4 * helped + kind)) (set block.old (node_at h node (pending_place h.k)) (4 * helped)) block.old }
 {

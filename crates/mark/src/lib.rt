@@ -1,6 +1,6 @@
 // Points 9, 10, 11: the mark of a prune's record on p, its push and pop, and the node noted.
 // No public function asks anything of its caller.
-#![tactic(auto)]
+#![tactic(auto, unfolding(tables::specs::Choice::pick, tables::specs::Choice::both))]
 
 ghost use Rattle.std.specs.Prelude.{◌≡◌, false, not, ◌<◌, ◌+◌, ◌*◌, ◌-◌, ltb, eqb, set, Ok};
 ghost use Rattle.tables.specs.Choice.{both, either};
@@ -86,7 +86,6 @@ fn under_top(block: &[u32], h: Header, n: u32, q: Process) -> u32
 }
 
 // The top that is popped is a prune, and so is the record under it, if any.
-#[tactic(auto, unfolding(tables::specs::Choice::both))]
 fn pop_good(block: &[u32], h: Header, n: u32, q: Process, under: u32) -> bool
     ensures { result ≡ pop_good block.now h n q under }
 {
@@ -95,7 +94,6 @@ fn pop_good(block: &[u32], h: Header, n: u32, q: Process, under: u32) -> bool
         && help::top_good(block, h, q.depth.saturating_sub(1), under)
 }
 
-#[tactic(auto, unfolding(tables::specs::Choice::both))]
 fn pop_sound(block: &[u32], h: Header, n: u32, q: Process, word: u32, under: u32) -> bool
     ensures { result ≡ both (pending_good block.now h (pending_of word)) (pop_good block.now h n q under) }
 {
@@ -134,14 +132,12 @@ pub fn point_10(block: &mut [u32], h: Header, n: u32, q: Process) -> Result<Step
 }
 
 // A non-empty child that isn't l.
-#[tactic(auto, unfolding(tables::specs::Choice::both))]
 fn notes(block: &[u32], h: Header, q: Process, seen: u32, kin: Kin) -> bool
     ensures { result ≡ notes_kin block.now h q seen kin }
 {
     help::non_empty(kin) && seen != help::helped_l(block, h, q)
 }
 
-#[tactic(auto, unfolding(tables::specs::Choice::pick))]
 fn other_with(q: Process, seen: u32, noting: bool) -> u32
     ensures { result ≡ other_with q seen noting }
 {
@@ -149,7 +145,6 @@ fn other_with(q: Process, seen: u32, noting: bool) -> u32
 }
 
 // Never a second one noted.
-#[tactic(auto, unfolding(tables::specs::Choice::pick))]
 fn first_noted(q: Process, noting: bool) -> bool
     ensures { result ≡ either (not noting) (eqb q.other 0) }
 {
@@ -157,14 +152,12 @@ fn first_noted(q: Process, noting: bool) -> bool
 }
 
 // One noted at the end.
-#[tactic(auto, unfolding(tables::specs::Choice::pick))]
 fn last_noted(h: Header, q: Process, other: u32) -> bool
     ensures { result ≡ either (ltb q.index h.k) (not (eqb other 0)) }
 {
     q.index < u32::from(h.k) || other != 0
 }
 
-#[tactic(auto, unfolding(tables::specs::Choice::pick))]
 fn noted(h: Header, q: Process, other: u32) -> Process
     ensures { going_on result ≡ noted_of h q other }
 {
@@ -176,7 +169,6 @@ fn noted(h: Header, q: Process, other: u32) -> Process
     }
 }
 
-#[tactic(auto, unfolding(tables::specs::Choice::pick, tables::specs::Choice::both))]
 fn note(h: Header, q: Process, seen: u32, noting: bool) -> Result<Stepped, Refusal>
     ensures { result ≡ note_done h q seen noting }
 {

@@ -1,9 +1,6 @@
 // The keys of a node: the route of a key, a leaf's keys in order, a key put in or taken out, and the leaves of a sprout.
-ghost use Rattle.std.specs.Prelude.{◌≡◌, ℕ, Bool, ◌<◌, ◌≤◌, [], ◌∷◌, get_or};
-ghost use Rattle.nodes.specs.Keys.{keys_of, first_at, greater_at, route_of, put_in, taken_out, key_array, sprout_of, sprout_leaf, equal_at};
-ghost use Rattle.nodes.specs.Keys.{put_in_word, taken_out_word};
-ghost use Rattle.nodes.specs.Keys.{rises as rises_of};
-ghost use Rattle.nodes.specs.Keys.{holds as holds_of};
+ghost use Rattle.std.specs.Prelude.{◌≡◌, ℕ, Bool, ◌<◌, [], ◌∷◌, get_or};
+ghost use Rattle.nodes.specs.Keys.{keys_of, first_at, greater_at, route_of, put_in, taken_out, key_array, sprout_of, sprout_leaf, equal_at, put_in_word, taken_out_word, rises, holds};
 
 use std::array;
 use tables::header::Header;
@@ -23,7 +20,7 @@ fn key_or(block: &[u32], h: Header, node: u32, count: u8, i: u32, past: u32) -> 
 
 // Each key is below the next, the last below infinity.
 pub fn rises(block: &[u32], h: Header, node: u32, count: u8) -> bool
-    ensures { result ≡ rises_of (keys_of block.now h node count) }
+    ensures { result ≡ rises (keys_of block.now h node count) }
 {
     (0..u32::from(count)).all(|i| {
         h.key_word(block, node, i + 1) < key_or(block, h, node, count, i + 1, INFINITY)
@@ -57,7 +54,7 @@ fn equal_at(block: &[u32], h: Header, node: u32, count: u8, key: u32) -> u32
 
 #[tactic(auto, using(crate::proofs::Keyed::holds_by))]
 pub fn holds(block: &[u32], h: Header, node: u32, count: u8, key: u32) -> bool
-    ensures { result ≡ holds_of key (keys_of block.now h node count) }
+    ensures { result ≡ holds key (keys_of block.now h node count) }
 {
     equal_at(block, h, node, count, key) < u32::from(count)
 }
@@ -70,7 +67,6 @@ pub fn route(block: &[u32], h: Header, node: u32, key: u32) -> u32
 }
 
 // Key i of the keys with a key put in, where at of them stand before it.
-#[tactic(auto, unfolding(tables::specs::Choice::pick))]
 fn put_in_word(block: &[u32], h: Header, node: u32, count: u8, key: u32, at: u32, i: u32) -> u32
     requires { i < KEY_ROOM }
     ensures { result ≡ put_in_word key (keys_of block.now h node count) at i }
@@ -93,7 +89,6 @@ pub fn with_key(block: &[u32], h: Header, node: u32, count: u8, key: u32) -> [u3
 }
 
 // Key i of the keys with one taken out, where at of them stand before it.
-#[tactic(auto, unfolding(tables::specs::Choice::pick))]
 fn taken_out_word(block: &[u32], h: Header, node: u32, count: u8, at: u32, i: u32) -> u32
     requires { i < KEY_ROOM }
     ensures { result ≡ taken_out_word (keys_of block.now h node count) at i }

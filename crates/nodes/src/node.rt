@@ -15,14 +15,12 @@ pub enum Kin {
     Internal(u32),
 }
 
-#[tactic(auto, unfolding(tables::specs::Choice::both))]
 fn node_good(h: Header, node: u32, tag: u32) -> bool
     ensures { result ≡ good_tag h node tag }
 {
     1 <= node && node <= u32::from(h.nodesused) && tag <= u32::from(h.k)
 }
 
-#[tactic(auto, unfolding(tables::specs::Choice::pick))]
 pub fn kin_of(block: &[u32], h: Header, node: u32) -> Option<Kin>
     ensures { result ≡ kin_of block.now h node }
 {
@@ -36,7 +34,6 @@ pub fn kin_of(block: &[u32], h: Header, node: u32) -> Option<Kin>
     }
 }
 
-#[tactic(auto, unfolding(tables::specs::Choice::pick))]
 pub fn below_of(block: &[u32], h: Header, parent: u32, node: u32) -> Option<Kin>
     ensures { result ≡ below_of block.now h parent node }
 {
@@ -66,7 +63,6 @@ pub fn is_leaf(child: Option<Kin>) -> bool
 }
 
 // Child o - k of an internal node whose children are numbered from first on; a leaf has none.
-#[tactic(auto, unfolding(tables::specs::Choice::pick))]
 fn image_child(k: u32, tag: u32, first: u16, o: u32) -> u32
     requires { (k ≤ 255) × ((k ≤ o) × (o < 2 * k)) }
     ensures { result ≡ image_child k tag first o }
@@ -78,7 +74,6 @@ fn image_child(k: u32, tag: u32, first: u16, o: u32) -> u32
     }
 }
 
-#[tactic(auto, unfolding(tables::specs::Choice::pick))]
 fn image_word(k: u8, tag: u16, keys: [u32; 8], first: u16, pending: u32, o: u32) -> u32
     ensures { result ≡ image_word k tag keys first pending o }
 {

@@ -52,14 +52,12 @@ impl From<Pending> for u64 {
     }
 }
 
-#[tactic(auto, unfolding(tables::specs::Choice::both))]
 pub fn record_in_use(h: Header, number: u32) -> bool
     ensures { result ≡ record_in_use h number }
 {
     1 <= number && number <= u32::from(h.recordsused)
 }
 
-#[tactic(auto, unfolding(tables::specs::Choice::both))]
 pub fn record_of_kind(block: &[u32], h: Header, number: u32, kind: u32) -> bool
     ensures { result ≡ record_of_kind block.now h number kind }
 {

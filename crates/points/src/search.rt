@@ -26,14 +26,12 @@ pub fn point_1(block: &[u32], h: Header, q: Process) -> Result<Stepped, Refusal>
     }
 }
 
-#[tactic(auto, unfolding(tables::specs::Choice::pick))]
 fn find_at(q: Process, held: bool) -> Stepped
     ensures { result ≡ find_at q held }
 {
     q.ends(if held { Answer::Yes } else { Answer::No })
 }
 
-#[tactic(auto, unfolding(tables::specs::Choice::pick))]
 fn insert_at(q: Process, held: bool) -> Stepped
     ensures { result ≡ insert_at q held }
 {
@@ -46,7 +44,6 @@ fn insert_at(q: Process, held: bool) -> Stepped
     }
 }
 
-#[tactic(auto, unfolding(tables::specs::Choice::pick))]
 fn delete_at(q: Process, held: bool) -> Stepped
     ensures { result ≡ delete_at q held }
 {
@@ -61,7 +58,6 @@ fn delete_at(q: Process, held: bool) -> Stepped
     }
 }
 
-#[tactic(auto, unfolding(tables::specs::Choice::pick))]
 fn at_leaf(q: Process, held: bool) -> Stepped
     ensures { result ≡ at_leaf q held }
 {
@@ -75,14 +71,12 @@ fn at_leaf(q: Process, held: bool) -> Stepped
 }
 
 // A leaf of a search: not straight below node 1, its keys in order.
-#[tactic(auto, unfolding(tables::specs::Choice::both))]
 fn leaf_good(block: &[u32], h: Header, p: u32, l: u32, count: u8) -> bool
     ensures { result ≡ both (not (eqb p 1)) (rises (keys_of block.now h l count)) }
 {
     p != 1 && keys::rises(block, h, l, count)
 }
 
-#[tactic(auto, unfolding(tables::specs::Choice::pick))]
 fn at_child(block: &[u32], h: Header, q: Process, kin: Kin) -> Result<Stepped, Refusal>
     ensures { result ≡ pick (leaf_good2 block.now h q kin) (Ok (at_child block.now h q kin)) (Err (refusal 3)) }
 {
@@ -111,7 +105,6 @@ pub fn point_2(block: &[u32], h: Header, q: Process) -> Result<Stepped, Refusal>
 }
 
 // "Child i is bit i−1 of the mask."
-#[tactic(auto, unfolding(tables::specs::Choice::pick))]
 fn mask_with(q: Process, kin: Kin) -> u32
     requires { q.index ≤ 8 }
     ensures { result ≡ mask_with q kin }
@@ -124,7 +117,6 @@ fn mask_with(q: Process, kin: Kin) -> u32
 }
 
 // "if the count of ones in its mask is 2 and l holds one key, 5; else 4"
-#[tactic(auto, unfolding(tables::specs::Choice::pick, tables::specs::Choice::both))]
 fn point_after(block: &[u32], h: Header, q: Process, mask: u32) -> u32
     ensures { result ≡ point_after3 block.now h q mask }
 {
@@ -135,7 +127,6 @@ fn point_after(block: &[u32], h: Header, q: Process, mask: u32) -> u32
     }
 }
 
-#[tactic(auto, unfolding(tables::specs::Choice::pick))]
 fn scanned(block: &[u32], h: Header, q: Process, mask: u32) -> Stepped
     ensures { result ≡ scanned3 block.now h q mask }
 {

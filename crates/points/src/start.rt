@@ -9,7 +9,6 @@ use tables::numbers::Refusal;
 use tables::{header, numbers};
 
 // Refusals 5, 6, 7, once the process is known.
-#[tactic(auto, unfolding(tables::specs::Choice::pick, tables::specs::Choice::both))]
 fn start_known(q: Process, operation: u32, key: u32) -> Result<Process, Refusal>
     ensures { result ≡ start_known q operation key }
 {
@@ -24,7 +23,6 @@ fn start_known(q: Process, operation: u32, key: u32) -> Result<Process, Refusal>
     }
 }
 
-#[tactic(auto, unfolding(tables::specs::Choice::pick, tables::specs::Choice::both))]
 fn start_good(
     h: Header,
     rows: u64,

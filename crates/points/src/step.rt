@@ -41,7 +41,6 @@ fn row(block: &mut [u32], h: Header, n: u32, q: Process) -> Result<Stepped, Refu
 }
 
 // The process record's fields, then the record that it helps: nothing is read by a number that is not sound, and a search pays for no record.
-#[tactic(auto, unfolding(tables::specs::Choice::both))]
 fn step_sound(block: &[u32], h: Header, q: Process) -> bool
     ensures { result ≡ both (process_good block.now h q) (helped_good block.now h q) }
 {

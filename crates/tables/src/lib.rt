@@ -1,6 +1,6 @@
 // The block of document 01, "Tables": its numbers and limits, header, addresses and words.
 // Every public function is total: it asks nothing of its caller and states its result, and every lent word, on every input.
-#![tactic(auto)]
+#![tactic(auto, unfolding(crate::specs::Choice::pick, crate::specs::Choice::both))]
 
 pub mod choice;
 pub mod header;

@@ -47,7 +47,6 @@ impl Refusal {
     }
 }
 
-#[tactic(auto, unfolding(crate::specs::Choice::pick))]
 pub fn k_stored(k: u32) -> u32
     ensures { result ≡ k_stored k }
 {
