@@ -30,7 +30,6 @@ fn mask_good(k: u8, mask: u32) -> bool
     32 <= k || mask < 1u32 << k
 }
 
-#[tactic(auto, unfolding(tables::specs::Choice::both, crate::specs::Fields::numbers_good))]
 fn numbers_good(h: Header, q: Process) -> bool
     ensures { result ≡ numbers_good h q }
 {
@@ -64,7 +63,6 @@ fn no_or_node(block: &[u32], h: Header, node: u32) -> bool
     node == 0 || node::kin_of(block, h, node).is_some()
 }
 
-#[tactic(auto, unfolding(tables::specs::Choice::both, crate::specs::Fields::nodes_good))]
 fn nodes_good(block: &[u32], h: Header, q: Process) -> bool
     ensures { result ≡ nodes_good block.now h q }
 {
@@ -75,7 +73,6 @@ fn nodes_good(block: &[u32], h: Header, q: Process) -> bool
 }
 
 // The records helped and own are 0 until something is helped, or drawn.
-#[tactic(auto, unfolding(tables::specs::Choice::both, crate::specs::Fields::records_good))]
 fn records_good(block: &[u32], h: Header, q: Process) -> bool
     ensures { result ≡ records_good block.now h q }
 {
@@ -104,7 +101,6 @@ fn leaf_given(point: u32, l: u32) -> bool
     given(3 <= point && point <= 5, l)
 }
 
-#[tactic(auto, unfolding(tables::specs::Choice::both, crate::specs::Fields::uses_good))]
 fn uses_good(q: Process) -> bool
     ensures { result ≡ uses_good q }
 {
@@ -117,7 +113,6 @@ fn uses_good(q: Process) -> bool
         && given(point == 10, q.depth)
 }
 
-#[tactic(auto, unfolding(tables::specs::Choice::both, crate::specs::Fields::process_good))]
 pub fn process_good(block: &[u32], h: Header, q: Process) -> bool
     ensures { result ≡ process_good block.now h q }
 {

@@ -50,7 +50,6 @@ fn expected_good(block: &[u32], h: Header, number: u32) -> bool
     process::is_clean(seen) && pending::pending_good(block, h, seen)
 }
 
-#[tactic(auto, unfolding(tables::specs::Choice::both, crate::specs::Helped::record_good))]
 fn record_good(block: &[u32], h: Header, kind: u32, number: u32) -> bool
     ensures { result ≡ record_good block.now h kind number }
 {
@@ -70,7 +69,6 @@ fn kind_at(point: u32) -> u32
     }
 }
 
-#[tactic(auto, unfolding(tables::specs::Choice::pick, crate::specs::Helped::helped_good))]
 pub fn helped_good(block: &[u32], h: Header, q: Process) -> bool
     ensures { result ≡ helped_good block.now h q }
 {

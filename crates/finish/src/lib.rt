@@ -1,6 +1,6 @@
 // Points 6, 7, 8 and 12, 13, 14: a child looked for and swapped, and the flag put back to clean, for whoever's record it is.
 // No public function asks anything of its caller.
-#![tactic(auto, unfolding(tables::specs::Choice::pick, tables::specs::Choice::both))]
+#![tactic(auto, unfolding(tables::specs::Choice::pick, tables::specs::Choice::both, help::specs::Touch::row_done, crate::specs::Rows::look_row, crate::specs::Rows::hang_row, crate::specs::Rows::unflag_row, crate::specs::Rows::row6, crate::specs::Rows::row7, crate::specs::Rows::row8, crate::specs::Rows::row12, crate::specs::Rows::row13, crate::specs::Rows::row14))]
 
 ghost use Rattle.std.specs.Prelude.{◌≡◌, true, eqb, set};
 ghost use Rattle.tables.specs.Choice.{pick, both};
@@ -29,7 +29,6 @@ fn looked_for(h: Header, q: Process, seen: u32, target: u32, found: u32, missed:
 }
 
 // Look for a node among the children of another.
-#[tactic(auto, unfolding(tables::specs::Choice::pick, tables::specs::Choice::both, help::specs::Touch::row_done, crate::specs::Rows::look_row))]
 fn look(
     block: &[u32],
     h: Header,
@@ -58,7 +57,6 @@ fn swap(block: &mut [u32], at: u64, seen: u32, from: u32, to: u32)
 }
 
 // Swap that child for a node that stands above the parent.
-#[tactic(auto, unfolding(tables::specs::Choice::pick, tables::specs::Choice::both, help::specs::Touch::row_done, crate::specs::Rows::hang_row))]
 fn hang(
     block: &mut [u32],
     h: Header,
@@ -88,7 +86,6 @@ fn flag_sound(block: &[u32], h: Header, n: u32, q: Process, word: u32) -> bool
 }
 
 // Swap a node's pending from this flag to clean with its number; help ends.
-#[tactic(auto, unfolding(tables::specs::Choice::pick, tables::specs::Choice::both, help::specs::Touch::row_done, crate::specs::Rows::unflag_row))]
 fn unflag(
     block: &mut [u32],
     h: Header,
@@ -110,7 +107,6 @@ fn unflag(
 }
 
 // 6. Read child i of p. Equal to l: 7. After child k without a match: 8.
-#[tactic(auto, unfolding(crate::specs::Rows::row6))]
 pub fn point_6(block: &[u32], h: Header, q: Process) -> Result<Stepped, Refusal>
     ensures { out result block.now ≡ row_done block.now (row6 block.now h q) }
 {
@@ -120,7 +116,6 @@ pub fn point_6(block: &[u32], h: Header, q: Process) -> Result<Stepped, Refusal>
 }
 
 // 7. Swap that child from l to the new child. To 8.
-#[tactic(auto, unfolding(crate::specs::Rows::row7))]
 pub fn point_7(block: &mut [u32], h: Header, q: Process) -> Result<Stepped, Refusal>
     ensures { out result block.new ≡ row_done block.old (row7 block.old h q) }
 {
@@ -131,7 +126,6 @@ pub fn point_7(block: &mut [u32], h: Header, q: Process) -> Result<Stepped, Refu
 }
 
 // 8. Swap p's pending from this replace to clean with the same record number. Help ends.
-#[tactic(auto, unfolding(crate::specs::Rows::row8))]
 pub fn point_8(block: &mut [u32], h: Header, n: u32, q: Process) -> Result<Stepped, Refusal>
     ensures { out result block.new ≡ row_done block.old (row8 block.old h n q) }
 {
@@ -140,7 +134,6 @@ pub fn point_8(block: &mut [u32], h: Header, n: u32, q: Process) -> Result<Stepp
 }
 
 // 12. Read child i of gp, looking for p. Found: 13. None: 14.
-#[tactic(auto, unfolding(crate::specs::Rows::row12))]
 pub fn point_12(block: &[u32], h: Header, q: Process) -> Result<Stepped, Refusal>
     ensures { out result block.now ≡ row_done block.now (row12 block.now h q) }
 {
@@ -150,7 +143,6 @@ pub fn point_12(block: &[u32], h: Header, q: Process) -> Result<Stepped, Refusal
 }
 
 // 13. Swap that child from p to the noted node. To 14.
-#[tactic(auto, unfolding(crate::specs::Rows::row13))]
 pub fn point_13(block: &mut [u32], h: Header, q: Process) -> Result<Stepped, Refusal>
     ensures { out result block.new ≡ row_done block.old (row13 block.old h q) }
 {
@@ -160,7 +152,6 @@ pub fn point_13(block: &mut [u32], h: Header, q: Process) -> Result<Stepped, Ref
 }
 
 // 14. Swap gp's pending from this prune to clean with its number. Help ends.
-#[tactic(auto, unfolding(crate::specs::Rows::row14))]
 pub fn point_14(block: &mut [u32], h: Header, n: u32, q: Process) -> Result<Stepped, Refusal>
     ensures { out result block.new ≡ row_done block.old (row14 block.old h n q) }
 {

@@ -1,6 +1,6 @@
 // Helping: where a pending value sends a process, how help ends, and what the points of a record being helped share.
 // No public function asks anything of its caller.
-#![tactic(auto, unfolding(tables::specs::Choice::pick, tables::specs::Choice::both))]
+#![tactic(auto, unfolding(tables::specs::Choice::pick, tables::specs::Choice::both, crate::specs::Help::help_ended))]
 
 ghost use Rattle.std.specs.Prelude.{◌≡◌, ◌+◌, ◌*◌, eqb, set};
 ghost use Rattle.tables.specs.Choice.{pick};
@@ -31,7 +31,6 @@ pub fn top_of(block: &[u32], h: Header, n: u32, q: Process) -> u32
 }
 
 // Help ends: the top record's point 10, or yes at 8 and 14 if the own record is set, or a restart.
-#[tactic(auto, unfolding(tables::specs::Choice::pick, tables::specs::Choice::both, crate::specs::Help::help_ended))]
 pub fn help_ended(last: bool, top: u32, q: Process) -> Stepped
     ensures { result ≡ help_ended last top q }
 {
