@@ -18,9 +18,9 @@ use Rattle.process.specs.declared.StepAnswer.TheVariants as step
 use Rattle.points.specs.declared.start.StartAnswer.TheVariants as start
 use Rattle.make.specs.Make.{make_out, make_call}
 use Rattle.index.specs.Calls.{record_of, start_out, start_call, step_out, step_call, StepOut}
-use Rattle.held.specs.declared.HeldMade.{HeldMade}
-use Rattle.held.specs.declared.HeldStart.{HeldStart}
-use Rattle.held.specs.declared.HeldStep.{HeldStep}
+use Rattle.fresh.specs.declared.Made.{Made}
+use Rattle.points.specs.declared.start.StartAnswer.{StartAnswer}
+use Rattle.held.specs.declared.Held.{Held}
 use Rattle.walk.specs.Calls.{list_out, list_of}
 use Rattle.walk.specs.declared.Listed.{Listed}
 use Rattle.walk.specs.declared.Listed.TheVariants as listed
@@ -38,7 +38,7 @@ use Rattle.session.specs.declared.line.Turn.{Turn}
 
 -- the making line
 module _ (b b' : List ℕ) (row : List Process) (m : Making) (t : Bool) (r : Turn) (e : t ≡ within_bench m) where
-  module _ (h : HeldMade) (on : t ≡ true)
+  module _ (h : Held Made 32) (on : t ≡ true)
       (f : make_out h.answer b' h.row ≡ make_call b row m.k m.processes m.nodes m.records) where
     pub making_done_lem : h.answer ≡ made.Done → r ≡ turn_of said.Nothing stage.Made h.row → did r b' ≡ making_done b row m
     unfolding pick
@@ -80,7 +80,7 @@ module _ (b b' : List ℕ) (row : List Process) (l : Line) (r : Turn) where
 pub ruleset firsts = (first_making, first_start, first_steps, first_list, first_none)
 
 -- a start
-module _ (b : List ℕ) (row : List Process) (s : StartLine) (h : HeldStart) (r : Turn)
+module _ (b : List ℕ) (row : List Process) (s : StartLine) (h : Held StartAnswer 32) (r : Turn)
     (f : start_out h.answer h.row ≡ start_call b row s.process s.op s.key) where
   pub start_accepted : h.answer ≡ start.Accepted → r ≡ turn_of said.Nothing stage.Made h.row → r ≡ start_done b row s
   start_accepted a g = rw (← f, a, g)
@@ -92,7 +92,7 @@ pub ruleset starts = (start_accepted, start_refused_lem)
 
 -- the steps
 module _ (w : StepOut) (b : List ℕ) (row : List Process) (n left : ℕ) (inv : w ≡ steps_of left b row n) where
-  module _ (b' : List ℕ) (h : HeldStep) (t : Bool) (some : 0 < left) (f : step_out h.answer b' h.row ≡ step_call b row n) (g : t ≡ goes_on h.answer) where
+  module _ (b' : List ℕ) (h : Held StepAnswer 32) (t : Bool) (some : 0 < left) (f : step_out h.answer b' h.row ≡ step_call b row n) (g : t ≡ goes_on h.answer) where
     pub steps_again : t ≡ true → w ≡ steps_of (left - 1) b' h.row n
     unfolding steps_of pick
     steps_again on = go left some inv
@@ -144,7 +144,7 @@ module _ (n : ℕ) (q : Process) (a : StepAnswer) where
 pub ruleset answers = (says_nothing, says_answer, says_refused)
 
 -- a step line
-pub step_line_by : (b b' : List ℕ) (row : List Process) (s : StepLine) (q : Process) (h : HeldStep) (x : Said) (r : Turn) → q ≡ record_of row s.process →
+pub step_line_by : (b b' : List ℕ) (row : List Process) (s : StepLine) (q : Process) (h : Held StepAnswer 32) (x : Said) (r : Turn) → q ≡ record_of row s.process →
     step_out h.answer b' h.row ≡ steps_of s.times b row s.process → x ≡ steps_said s.process q h.answer → r ≡ turn_of x stage.Made h.row → did r b' ≡ steps_done b row s
 step_line_by b b' row s q h x r e f g i = rw (← f, ← e, ← g, i)
 
