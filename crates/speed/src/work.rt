@@ -1,9 +1,12 @@
 // The work that is timed: a tree is made and filled, keys are sought in it, and keys go and come until there is no room.
-ghost use Rattle.std.specs.Prelude.{◌≡◌};
-ghost use Rattle.speed.specs.Operation.{operate_out, operate_of};
+ghost use Rattle.std.specs.Prelude.{◌≡◌, replicate};
+ghost use Rattle.process.specs.Process.{idle};
+ghost use Rattle.index.specs.Calls.{start_call};
+ghost use Rattle.speed.specs.Steps.{steps_out, steps_from};
+ghost use Rattle.speed.specs.Operation.{ending_of, operate_out, operate_of};
 ghost use Rattle.speed.specs.Work.{key_of, is_over, mixed_of, tallied_of, nothing_yet, period_of, asked_of, change_of, turn_of, done_out, done_from, fresh_of, round_out, round_of, rounds_from};
 
-use process::{Answer, StepAnswer};
+use process::{Answer, Process, StepAnswer};
 
 // More steps than any operation of a process alone takes.
 const MOST_STEPS: u32 = 1000000;
@@ -66,20 +69,45 @@ fn key_of(i: u32) -> u32
     ((u64::from(i) + 1) * 2654435761 % PRIME) as u32
 }
 
-// One operation of process 1, from its start to its answer; none if it is refused, or has none after so many steps.
-fn operate(block: &mut [u32], operation: u32, key: u32) -> Option<Ending>
-    ensures { operate_out result block.new ≡ operate_of block.old operation key }
+// A start of process 1 in a row of one record.
+fn begin(block: &[u32], operation: u32, key: u32) -> [Process; 1]
+    ensures { result ≡ (start_call block.now (replicate 1 idle) 1 operation key).row }
 {
     let mut row = [process::idle_record(); 1];
     index::start(block, &mut row, 1, operation, key);
-    for _ in 0..MOST_STEPS {
+    row
+}
+
+// Steps of process 1 in a row of one record, until an answer or a refusal; at most so many.
+fn steps(block: &mut [u32], held: [Process; 1], most: u32) -> StepAnswer
+    ensures { steps_out result block.new ≡ steps_from most block.old held }
+{
+    let mut row = held;
+    for _ in 0..most {
         match index::step(block, &mut row, 1) {
             StepAnswer::GoesOn => {}
-            StepAnswer::Ended(answer, steps) => return Some(Ending { answer, steps }),
-            StepAnswer::Refused(_) => return None,
+            answer => return answer,
         }
     }
-    None
+    StepAnswer::GoesOn
+}
+
+fn ending_of(answer: StepAnswer) -> Option<Ending>
+    ensures { result ≡ ending_of answer }
+{
+    match answer {
+        StepAnswer::Ended(answer, steps) => Some(Ending { answer, steps }),
+        StepAnswer::GoesOn | StepAnswer::Refused(_) => None,
+    }
+}
+
+// One operation of process 1, from its start to its answer; none if it is refused, or has none after so many steps.
+#[tactic(auto, unfolding(crate::specs::Operation::operate_of))]
+fn operate(block: &mut [u32], operation: u32, key: u32) -> Option<Ending>
+    ensures { operate_out result block.new ≡ operate_of block.old operation key }
+{
+    let started = begin(block, operation, key);
+    ending_of(steps(block, started, MOST_STEPS))
 }
 
 // Full or refused: no more of its part is done.
