@@ -1,7 +1,5 @@
 // The work that is timed: a tree is made and filled, keys are sought in it, and keys go and come until there is no room.
-ghost use Rattle.std.specs.Prelude.{◌≡◌, replicate};
-ghost use Rattle.process.specs.Process.{idle};
-ghost use Rattle.index.specs.Calls.{start_call};
+ghost use Rattle.std.specs.Prelude.{◌≡◌};
 ghost use Rattle.speed.specs.Steps.{steps_out, steps_from};
 ghost use Rattle.speed.specs.Operation.{ending_of, operate_out, operate_of};
 ghost use Rattle.speed.specs.Work.{key_of, is_over, mixed_of, tallied_of, nothing_yet, period_of, asked_of, change_of, turn_of, done_out, done_from, fresh_of, round_out, round_of, rounds_from};
@@ -69,15 +67,6 @@ fn key_of(i: u32) -> u32
     ((u64::from(i) + 1) * 2654435761 % PRIME) as u32
 }
 
-// A start of process 1 in a row of one record.
-fn begin(block: &[u32], operation: u32, key: u32) -> [Process; 1]
-    ensures { result ≡ (start_call block.now (replicate 1 idle) 1 operation key).row }
-{
-    let mut row = [process::idle_record(); 1];
-    index::start(block, &mut row, 1, operation, key);
-    row
-}
-
 // Steps of process 1 in a row of one record, until an answer or a refusal; at most so many.
 fn steps(block: &mut [u32], held: [Process; 1], most: u32) -> StepAnswer
     ensures { steps_out result block.new ≡ steps_from most block.old held }
@@ -106,8 +95,9 @@ fn ending_of(answer: StepAnswer) -> Option<Ending>
 fn operate(block: &mut [u32], operation: u32, key: u32) -> Option<Ending>
     ensures { operate_out result block.new ≡ operate_of block.old operation key }
 {
-    let started = begin(block, operation, key);
-    ending_of(steps(block, started, MOST_STEPS))
+    let mut row = [process::idle_record(); 1];
+    index::start(block, &mut row, 1, operation, key);
+    ending_of(steps(block, row, MOST_STEPS))
 }
 
 // Full or refused: no more of its part is done.
