@@ -18,7 +18,7 @@ pub struct Held<A, const N: usize> {
 
 pub fn make_held<const N: usize>(
     block: &mut [u32],
-    row: [Process; N],
+    mut row: [Process; N],
     k: u32,
     processes: u32,
     nodes: u32,
@@ -26,29 +26,30 @@ pub fn make_held<const N: usize>(
 ) -> Held<Made, N>
     ensures { make_out result.answer block.new result.row ≡ make_call block.old row.entry k processes nodes records }
 {
-    let mut row = row;
     let answer = index::make(block, &mut row, k, processes, nodes, records);
     Held { answer, row }
 }
 
 pub fn start_held<const N: usize>(
     block: &[u32],
-    row: [Process; N],
+    mut row: [Process; N],
     process: u32,
     operation: u32,
     key: u32,
 ) -> Held<StartAnswer, N>
     ensures { start_out result.answer result.row ≡ start_call block.now row.entry process operation key }
 {
-    let mut row = row;
     let answer = index::start(block, &mut row, process, operation, key);
     Held { answer, row }
 }
 
-pub fn step_held<const N: usize>(block: &mut [u32], row: [Process; N], process: u32) -> Held<StepAnswer, N>
+pub fn step_held<const N: usize>(
+    block: &mut [u32],
+    mut row: [Process; N],
+    process: u32,
+) -> Held<StepAnswer, N>
     ensures { step_out result.answer block.new result.row ≡ step_call block.old row.entry process }
 {
-    let mut row = row;
     let answer = index::step(block, &mut row, process);
     Held { answer, row }
 }

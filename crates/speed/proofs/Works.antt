@@ -1,13 +1,12 @@
 -- Laws of the work: what a change asks, and what a turn of each loop comes to.
-use Rattle.std.proofs.Common.{◌≡◌, ℕ, zero, suc, ◌+◌, ◌-◌, ◌*◌, ◌/◌, ◌%◌, ◌^◌, ◌<◌, ◌≤◌, Bool, true, false, eqb, ltb, List, Option, sym, refl, ap, ◌∙◌, subst, arith, eq-eqb, ne_eqb}
+use Rattle.std.proofs.Common.{◌≡◌, ℕ, ◌+◌, ◌-◌, ◌*◌, ◌<◌, ◌≤◌, Bool, true, false, ltb, List, Option, sym, ap, ◌∙◌, arith}
 use Rattle.tables.specs.Choice.{pick}
 use Rattle.tables.proofs.Lists.{left_over}
 use Rattle.speed.specs.Operation.{OperateOut, operate_out}
-use Rattle.speed.specs.Work.{period_of, change_of, is_over, tallied_of, turn_of, DoneOut, done_out, done_from, nothing_yet, RoundOut, round_out, fresh_of, changed, after_finds, after_filling, round_of, rounds_from}
+use Rattle.speed.specs.Work.{period_of, is_over, tallied_of, turn_of, DoneOut, done_out, done_from, RoundOut, round_out, fresh_of, changed, after_finds, after_filling, round_of, rounds_from}
 use Rattle.speed.specs.declared.work.Work.{Work}
 use Rattle.speed.specs.declared.work.Ending.{Ending}
 use Rattle.speed.specs.declared.work.Tally.{Tally}
-use Rattle.speed.specs.declared.work.Asked.{Asked}
 use Rattle.speed.specs.declared.work.Part.{Part}
 use Rattle.speed.specs.declared.work.Part.TheVariants as parts
 

@@ -1,5 +1,5 @@
 -- The work of the timed program: which operations, in which order, and how what they come to is counted.
-use Rattle.std.specs.Prelude.{ℕ, zero, suc, ◌+◌, ◌*◌, ◌/◌, ◌%◌, ◌^◌, Bool, true, false, List, replicate, Option, ◌==◌, nat_lt}
+use Rattle.std.specs.Prelude.{ℕ, zero, suc, ◌+◌, ◌*◌, ◌/◌, ◌%◌, ◌^◌, Bool, List, replicate, Option, ◌==◌, nat_lt}
 use Rattle.tables.specs.Choice.{pick}
 use Rattle.process.specs.Process.{idle}
 use Rattle.make.specs.Make.{make_call}

@@ -28,14 +28,14 @@ fn number_of(digits: &[u8]) -> u32 {
     digits.iter().fold(0, |n, digit| with_digit(n, *digit))
 }
 
-// The numbers of a text, whatever stands between them; 0 for those that are missing.
+// The numbers of a text, in their order, whatever stands between them; 0 for those that are missing.
 fn work_of(text: &[u8]) -> Work {
-    let words = text
+    let numbers = text
         .split(|byte| !byte.is_ascii_digit())
-        .filter(|word| !word.is_empty());
+        .filter(|digits| !digits.is_empty());
     let mut found = [0u32; 7];
-    for (number, word) in found.iter_mut().zip(words) {
-        *number = number_of(word);
+    for (number, digits) in found.iter_mut().zip(numbers) {
+        *number = number_of(digits);
     }
     let [k, nodes, records, keys, finds, changes, rounds] = found;
     Work {
@@ -61,7 +61,9 @@ fn report(rt: &impl Print, block: &[u32], t: Tally) {
     } = t;
     let nodes = words::word_at(block, 3);
     let records = words::word_at(block, 5);
-    let _ = println!(rt; "yes={yes} no={no} full={full} refused={refused} steps={steps} nodes={nodes} records={records} sum={sum}");
+    let _ = println!(rt;
+        "yes={yes} no={no} full={full} refused={refused} steps={steps} nodes={nodes} records={records} sum={sum}"
+    );
 }
 
 // How many bytes one read puts at the front of the text; none where it fails, as at the end of the input.
@@ -71,7 +73,7 @@ fn read_some(input: &mut impl Read, text: &mut [u8]) -> usize
     input.read(text).unwrap_or(0)
 }
 
-// Reads until the text is full or the input ends, and says how many bytes it put at the front of the text.
+// Reads until the text is full or the input ends, and says how many bytes it put at the front of the text. The library's `read_to_end` needs a heap.
 fn read_full(input: &mut impl Read, text: &mut [u8]) -> usize
     ensures { result ≤ length text.new }
 {

@@ -104,10 +104,7 @@ fn operate(block: &mut [u32], operation: u32, key: u32) -> Option<Ending>
 fn is_over(e: Option<Ending>) -> bool
     ensures { result ≡ is_over e }
 {
-    match e {
-        Some(e) => matches!(e.answer, Answer::Full),
-        None => true,
-    }
+    e.is_none_or(|e| matches!(e.answer, Answer::Full))
 }
 
 fn mixed(sum: u32, answer: u32, steps: u32) -> u32
