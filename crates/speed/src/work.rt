@@ -9,7 +9,7 @@ use process::{Answer, Process, StepAnswer};
 // More steps than any operation of a process alone takes.
 const MOST_STEPS: u32 = 1000000;
 
-// Beside the paper's 0 no, 1 yes, 2 full.
+// In the sum, beside the paper's 0 no, 1 yes, 2 full; the peer adds the same.
 const NO_ANSWER: u32 = 3;
 
 // A prime below infinity.
@@ -116,23 +116,21 @@ fn mixed(sum: u32, answer: u32, steps: u32) -> u32
 impl Tally {
     // One operation more.
     #[tactic(auto, unfolding(tables::specs::Choice::pick))]
-    fn with(self, e: Option<Ending>) -> Tally
-        ensures { result ≡ tallied_of self e }
+    fn count(&mut self, e: Option<Ending>)
+        ensures { self.new ≡ tallied_of self.old e }
     {
         let (number, steps) = match e {
             Some(e) => (process::number_of(e.answer), e.steps),
             None => (NO_ANSWER, 0),
         };
-        let mut t = self;
         match e.map(|e| e.answer) {
-            Some(Answer::No) => t.no = t.no.wrapping_add(1),
-            Some(Answer::Yes) => t.yes = t.yes.wrapping_add(1),
-            Some(Answer::Full) => t.full = t.full.wrapping_add(1),
-            None => t.refused = t.refused.wrapping_add(1),
+            Some(Answer::No) => self.no = self.no.wrapping_add(1),
+            Some(Answer::Yes) => self.yes = self.yes.wrapping_add(1),
+            Some(Answer::Full) => self.full = self.full.wrapping_add(1),
+            None => self.refused = self.refused.wrapping_add(1),
         }
-        t.steps = t.steps.wrapping_add(u64::from(steps));
-        t.sum = mixed(t.sum, number, steps);
-        t
+        self.steps = self.steps.wrapping_add(u64::from(steps));
+        self.sum = mixed(self.sum, number, steps);
     }
 }
 
@@ -192,7 +190,7 @@ fn perform(block: &mut [u32], part: Part, number: u32, tally: &mut Tally) -> u32
 {
     for i in 0..number {
         let e = turn(block, part, i);
-        *tally = tally.with(e);
+        tally.count(e);
         if is_over(e) {
             return i + 1;
         }
