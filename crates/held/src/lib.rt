@@ -5,61 +5,50 @@ ghost use Rattle.std.specs.Prelude.{◌≡◌};
 ghost use Rattle.make.specs.Make.{make_out, make_call};
 ghost use Rattle.index.specs.Calls.{start_out, start_call, step_out, step_call};
 
-use fresh::Made;
-use points::start::StartAnswer;
-use process::{Process, StepAnswer};
+use process::{Process, Progress};
+use tables::numbers::Refusal;
 
+// What a call answers, and the row then.
 #[derive(Clone, Copy)]
-pub struct HeldMade {
-    pub row: [Process; 32],
-    pub answer: Made,
+pub struct Held<A, const N: usize> {
+    pub answer: A,
+    pub row: [Process; N],
 }
 
-#[derive(Clone, Copy)]
-pub struct HeldStart {
-    pub row: [Process; 32],
-    pub answer: StartAnswer,
-}
-
-#[derive(Clone, Copy)]
-pub struct HeldStep {
-    pub row: [Process; 32],
-    pub answer: StepAnswer,
-}
-
-pub fn make_held(
+pub fn make_held<const N: usize>(
     block: &mut [u32],
-    row: [Process; 32],
+    mut row: [Process; N],
     k: u32,
     processes: u32,
     nodes: u32,
     records: u32,
-) -> HeldMade
-    ensures { make_out result.answer block.new result.row ≡ make_call block.old row k processes nodes records }
+) -> Held<Result<(), Refusal>, N>
+    ensures { make_out result.answer block.new result.row ≡ make_call block.old row.entry k processes nodes records }
 {
-    let mut t = row;
-    let a = index::make(block, &mut t, k, processes, nodes, records);
-    HeldMade { row: t, answer: a }
+    let answer = index::make(block, &mut row, k, processes, nodes, records);
+    Held { answer, row }
 }
 
-pub fn start_held(
+pub fn start_held<const N: usize>(
     block: &[u32],
-    row: [Process; 32],
+    mut row: [Process; N],
     process: u32,
     operation: u32,
     key: u32,
-) -> HeldStart
-    ensures { start_out result.answer result.row ≡ start_call block.now row process operation key }
+) -> Held<Result<(), Refusal>, N>
+    ensures { start_out result.answer result.row ≡ start_call block.now row.entry process operation key }
 {
-    let mut t = row;
-    let a = index::start(block, &mut t, process, operation, key);
-    HeldStart { row: t, answer: a }
+    let answer = index::start(block, &mut row, process, operation, key);
+    Held { answer, row }
 }
 
-pub fn step_held(block: &mut [u32], row: [Process; 32], process: u32) -> HeldStep
-    ensures { step_out result.answer block.new result.row ≡ step_call block.old row process }
+pub fn step_held<const N: usize>(
+    block: &mut [u32],
+    mut row: [Process; N],
+    process: u32,
+) -> Held<Result<Progress, Refusal>, N>
+    ensures { step_out result.answer block.new result.row ≡ step_call block.old row.entry process }
 {
-    let mut t = row;
-    let a = index::step(block, &mut t, process);
-    HeldStep { row: t, answer: a }
+    let answer = index::step(block, &mut row, process);
+    Held { answer, row }
 }

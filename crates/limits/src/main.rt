@@ -2,17 +2,20 @@
 #![tactic(auto)]
 
 use fresh::Made;
+use held::Held;
 use print::lines::{Making, StartLine, StepLine};
 use print::write;
 use process::Process;
 use script::lines::Line;
-use session::line::Said;
+use session::line::{Said, Session, Turn};
 use session::{line, text};
 use tables::numbers;
 
 const HIGHEST_KEY: u32 = numbers::INFINITY - 1;
 
 const PROCESSES: u32 = 32;
+
+const RECORDS: u32 = 8;
 
 // The roomy block of k = 8 has 6 + 64·17 + 8·8 + 32·((64 − 17) div 8) = 1,318 words.
 const BLOCK_WORDS: usize = 2048;
@@ -21,225 +24,146 @@ const LIST_WORDS: usize = 64;
 
 const TEXT_BYTES: usize = 1024;
 
-// A write that fails is passed over: what follows is tried and written all the same.
-fn write_out(rt: &impl Print, text: &[u8]) {
-    let _ = rt.write_all(text);
-}
-
-// The front of a text is written.
-fn show(rt: &impl Print, text: &[u8], n: usize) {
-    if n <= text.len() {
-        write_out(rt, &text[..n]);
-    }
-}
-
-fn show_made(rt: &impl Print, out: &mut [u8], answer: Made) {
-    match answer {
-        Made::Done => {
-            write_out(rt, b": made\n");
-        }
-        Made::Refused(e) => {
-            write_out(rt, b": ");
-            let n = write::write_refused(out, 0, e.number());
-            show(rt, out, n);
-        }
-    }
-}
-
-// A making with 8 records.
-fn make(
-    rt: &impl Print,
-    block: &mut [u32],
-    out: &mut [u8],
+// The tables that are tried, and what is needed to say so: where it is printed, and room for a listing and for a text.
+#[derive(Drop)]
+struct Trial<'a, R> {
+    rt: &'a R,
+    block: [u32; BLOCK_WORDS],
     row: [Process; 32],
-    k: u32,
-    nodes: u32,
-) -> [Process; 32] {
-    let m = Making {
-        k: k,
-        processes: PROCESSES,
-        nodes: nodes,
-        records: 8,
-    };
-    let n = write::write_making(out, 0, m);
-    show(rt, out, n);
-    let h = held::make_held(block, row, k, PROCESSES, nodes, 8);
-    let answer = h.answer;
-    show_made(rt, out, answer);
-    h.row
+    list: [u32; LIST_WORDS],
+    out: [u8; TEXT_BYTES],
 }
 
-fn put_line(out: &mut [u8], asked: Line) -> usize {
-    match asked {
-        Line::Making(m) => write::write_making(out, 0, m),
-        Line::Start(s) => write::write_start(out, 0, s),
-        Line::Steps(s) => write::write_steps(out, 0, s),
-        Line::List => write::write_list(out, 0),
-        Line::NotInForm => 0,
+impl<R: Print> Trial<'_, R> {
+    // A write that fails is passed over: what follows is tried and written all the same.
+    fn write(&self, text: &[u8]) {
+        let _ = self.rt.write_all(text);
     }
-}
 
-fn show_said(rt: &impl Print, out: &mut [u8], list: &[u32], said: Said) {
-    match said {
-        Said::Nothing => {
-            write_out(rt, b"accepted\n");
-        }
-        Said::Answered(a) => {
-            let n = text::put_said(out, Said::Answered(a), list);
-            show(rt, out, n);
-        }
-        Said::Refused(e) => {
-            let n = text::put_said(out, Said::Refused(e), list);
-            show(rt, out, n);
-        }
-        Said::Listed(c) => {
-            let n = text::put_said(out, Said::Listed(c), list);
-            show(rt, out, n);
+    // The front of the text is written.
+    fn show(&self, n: usize) {
+        self.write(&self.out[..n.min(TEXT_BYTES)]);
+    }
+
+    fn make(&mut self, k: u32, nodes: u32) {
+        let making = Making {
+            k,
+            processes: PROCESSES,
+            nodes,
+            records: RECORDS,
+        };
+        let n = write::write_making(&mut self.out, 0, making);
+        self.show(n);
+        let Held { answer, row } = held::make_held(
+            &mut self.block,
+            self.row,
+            k,
+            PROCESSES,
+            nodes,
+            RECORDS,
+        );
+        self.row = row;
+        match answer {
+            Made::Done => self.write(b": made\n"),
+            Made::Refused(e) => {
+                self.write(b": ");
+                let n = write::write_refused(&mut self.out, 0, e.number());
+                self.show(n);
+            }
         }
     }
-}
 
-// A line of the bench, but on tables that may have more processes than the bench's.
-fn ask(
-    rt: &impl Print,
-    block: &mut [u32],
-    list: &mut [u32],
-    out: &mut [u8],
-    row: [Process; 32],
-    asked: Line,
-) -> [Process; 32] {
-    let n = put_line(out, asked);
-    show(rt, out, n);
-    write_out(rt, b": ");
-    let t = line::later(block, list, row, asked);
-    let said = t.said;
-    let session = t.session;
-    show_said(rt, out, list, said);
-    session.row
-}
+    fn put_line(&mut self, asked: Line) -> usize {
+        match asked {
+            Line::Making(m) => write::write_making(&mut self.out, 0, m),
+            Line::Start(s) => write::write_start(&mut self.out, 0, s),
+            Line::Steps(s) => write::write_steps(&mut self.out, 0, s),
+            Line::List => write::write_list(&mut self.out, 0),
+            Line::NotInForm => 0,
+        }
+    }
 
-fn start(process: u32, op: u32, key: u32) -> Line {
-    Line::Start(StartLine {
-        process: process,
-        op: op,
-        key: key,
-    })
-}
+    // A line of the bench, but on tables that may have more processes than the bench's.
+    fn ask(&mut self, asked: Line) {
+        let n = self.put_line(asked);
+        self.show(n);
+        self.write(b": ");
+        let Turn {
+            said,
+            session: Session { row, .. },
+        } = line::later(&mut self.block, &mut self.list, self.row, asked);
+        self.row = row;
+        match said {
+            Said::Nothing => self.write(b"accepted\n"),
+            said => {
+                let n = text::put_said(&mut self.out, said, &self.list);
+                self.show(n);
+            }
+        }
+    }
 
-fn step(process: u32, times: u32) -> Line {
-    Line::Steps(StepLine {
-        process: process,
-        times: times,
-    })
-}
+    fn start(&mut self, process: u32, op: u32, key: u32) {
+        self.ask(Line::Start(StartLine { process, op, key }));
+    }
 
-// No process has this number.
-fn nobody(
-    rt: &impl Print,
-    block: &mut [u32],
-    list: &mut [u32],
-    out: &mut [u8],
-    row: [Process; 32],
-    process: u32,
-) -> [Process; 32] {
-    let a = ask(rt, block, list, out, row, start(process, process::FIND, 0));
-    ask(rt, block, list, out, a, step(process, 1))
-}
+    fn step(&mut self, process: u32, times: u32) {
+        self.ask(Line::Steps(StepLine { process, times }));
+    }
 
-// The last process runs an operation on the highest key.
-fn highest(
-    rt: &impl Print,
-    block: &mut [u32],
-    list: &mut [u32],
-    out: &mut [u8],
-    row: [Process; 32],
-    op: u32,
-) -> [Process; 32] {
-    let a = ask(rt, block, list, out, row, start(PROCESSES, op, HIGHEST_KEY));
-    ask(rt, block, list, out, a, step(PROCESSES, 64))
-}
+    // No process has this number.
+    fn nobody(&mut self, process: u32) {
+        self.start(process, process::FIND, 0);
+        self.step(process, 1);
+    }
 
-// It is refused infinity; then the set.
-fn infinity(
-    rt: &impl Print,
-    block: &mut [u32],
-    list: &mut [u32],
-    out: &mut [u8],
-    row: [Process; 32],
-) -> [Process; 32] {
-    let a = ask(
-        rt,
-        block,
-        list,
-        out,
-        row,
-        start(PROCESSES, process::INSERT, numbers::INFINITY),
-    );
-    let b = ask(
-        rt,
-        block,
-        list,
-        out,
-        a,
-        start(PROCESSES, process::FIND, numbers::INFINITY),
-    );
-    ask(rt, block, list, out, b, Line::List)
-}
+    // The last process runs an operation on the highest key.
+    fn highest(&mut self, op: u32) {
+        self.start(PROCESSES, op, HIGHEST_KEY);
+        self.step(PROCESSES, 64);
+    }
 
-// One node too few, just enough, and room for the calls.
-fn makings(
-    rt: &impl Print,
-    block: &mut [u32],
-    out: &mut [u8],
-    row: [Process; 32],
-    k: u8,
-) -> [Process; 32] {
-    let fresh = 2 * (k as u32) + 1;
-    let a = make(rt, block, out, row, k as u32, fresh - 1);
-    let b = make(rt, block, out, a, k as u32, fresh);
-    make(rt, block, out, b, k as u32, 8 * (k as u32))
-}
+    // One node too few, just enough, and room for the calls.
+    fn makings(&mut self, k: u8) {
+        let k = u32::from(k);
+        let fresh = 2 * k + 1;
+        self.make(k, fresh - 1);
+        self.make(k, fresh);
+        self.make(k, 8 * k);
+    }
 
-// Processes 0 and 33 are none.
-fn nobodies(
-    rt: &impl Print,
-    block: &mut [u32],
-    list: &mut [u32],
-    out: &mut [u8],
-    row: [Process; 32],
-) -> [Process; 32] {
-    let a = nobody(rt, block, list, out, row, 0);
-    nobody(rt, block, list, out, a, PROCESSES + 1)
-}
+    // Processes 0 and 33 are none.
+    fn nobodies(&mut self) {
+        self.nobody(0);
+        self.nobody(PROCESSES + 1);
+    }
 
-fn keys(
-    rt: &impl Print,
-    block: &mut [u32],
-    list: &mut [u32],
-    out: &mut [u8],
-    row: [Process; 32],
-) -> [Process; 32] {
-    let a = highest(rt, block, list, out, row, process::INSERT);
-    let b = highest(rt, block, list, out, a, process::FIND);
-    infinity(rt, block, list, out, b)
-}
+    // The highest key is let in, infinity is refused; then the set.
+    fn keys(&mut self) {
+        self.highest(process::INSERT);
+        self.highest(process::FIND);
+        self.start(PROCESSES, process::INSERT, numbers::INFINITY);
+        self.start(PROCESSES, process::FIND, numbers::INFINITY);
+        self.ask(Line::List);
+    }
 
-fn run(rt: &impl Print, block: &mut [u32], list: &mut [u32], out: &mut [u8]) {
-    let none = make(rt, block, out, [process::idle_record(); 32], 1, 64);
-    let mut row = make(rt, block, out, none, 9, 64);
-    let mut k: u8 = 2;
-    while k <= 8 {
-        let made = makings(rt, block, out, row, k);
-        let tried = nobodies(rt, block, list, out, made);
-        let after = keys(rt, block, list, out, tried);
-        row = after;
-        k += 1;
+    fn run(&mut self) {
+        self.make(1, 64);
+        self.make(9, 64);
+        for k in 2..=8 {
+            self.makings(k);
+            self.nobodies();
+            self.keys();
+        }
     }
 }
 
 fn main(rt: HostRuntime) {
-    let mut block = [0u32; BLOCK_WORDS];
-    let mut list = [0u32; LIST_WORDS];
-    let mut out = [0u8; TEXT_BYTES];
-    run(&rt, &mut block, &mut list, &mut out);
+    let mut trial = Trial {
+        rt: &rt,
+        block: [0; BLOCK_WORDS],
+        row: [process::idle_record(); 32],
+        list: [0; LIST_WORDS],
+        out: [0; TEXT_BYTES],
+    };
+    trial.run();
 }

@@ -9,19 +9,15 @@ use Rattle.std.specs.Prelude.{Result, Ok, Err}
 use Rattle.tables.specs.Choice.{pick}
 use Rattle.tables.specs.declared.numbers.Refusal.{Refusal}
 use Rattle.tables.specs.declared.numbers.Refusal.TheVariants.{MakingNumber, NotInForm}
-use Rattle.fresh.specs.declared.Made.TheVariants as made
 use Rattle.process.specs.Process.{idle}
 use Rattle.process.specs.Answer.{answer_number}
 use Rattle.process.specs.declared.Process.{Process}
 use Rattle.process.specs.declared.Answer.{Answer}
-use Rattle.process.specs.declared.StepAnswer.{StepAnswer}
-use Rattle.process.specs.declared.StepAnswer.TheVariants as step
-use Rattle.points.specs.declared.start.StartAnswer.TheVariants as start
+use Rattle.process.specs.declared.Progress.{Progress}
+use Rattle.process.specs.declared.Progress.TheVariants as step
 use Rattle.make.specs.Make.{make_out, make_call}
 use Rattle.index.specs.Calls.{record_of, start_out, start_call, step_out, step_call, StepOut}
-use Rattle.held.specs.declared.HeldMade.{HeldMade}
-use Rattle.held.specs.declared.HeldStart.{HeldStart}
-use Rattle.held.specs.declared.HeldStep.{HeldStep}
+use Rattle.held.specs.declared.Held.{Held}
 use Rattle.walk.specs.Calls.{list_out, list_of}
 use Rattle.script.specs.declared.lines.Line.{Line}
 use Rattle.script.specs.declared.lines.Line.TheVariants as line
@@ -37,13 +33,13 @@ use Rattle.session.specs.declared.line.Turn.{Turn}
 
 -- the making line
 module _ (b b' : List ℕ) (row : List Process) (m : Making) (t : Bool) (r : Turn) (e : t ≡ within_bench m) where
-  module _ (h : HeldMade) (on : t ≡ true)
+  module _ (h : Held Result (Unit {0}) Refusal 32) (on : t ≡ true)
       (f : make_out h.answer b' h.row ≡ make_call b row m.k m.processes m.nodes m.records) where
-    pub making_done_lem : h.answer ≡ made.Done → r ≡ turn_of said.Nothing stage.Made h.row → did r b' ≡ making_done b row m
+    pub making_done_lem : h.answer ≡ (Ok tt) → r ≡ turn_of said.Nothing stage.Made h.row → did r b' ≡ making_done b row m
     unfolding pick
     making_done_lem a g = rw (← f, ← e, on, a, g)
 
-    pub making_refused_lem : (x : Refusal) → h.answer ≡ made.Refused x → r ≡ turn_of (said.Refused x) stage.Ended h.row → did r b' ≡ making_done b row m
+    pub making_refused_lem : (x : Refusal) → h.answer ≡ Err x → r ≡ turn_of (said.Refused x) stage.Ended h.row → did r b' ≡ making_done b row m
     unfolding pick
     making_refused_lem x a g = rw (← f, ← e, on, a, g)
 
@@ -79,19 +75,19 @@ module _ (b b' : List ℕ) (row : List Process) (l : Line) (r : Turn) where
 pub ruleset firsts = (first_making, first_start, first_steps, first_list, first_none)
 
 -- a start
-module _ (b : List ℕ) (row : List Process) (s : StartLine) (h : HeldStart) (r : Turn)
+module _ (b : List ℕ) (row : List Process) (s : StartLine) (h : Held Result (Unit {0}) Refusal 32) (r : Turn)
     (f : start_out h.answer h.row ≡ start_call b row s.process s.op s.key) where
-  pub start_accepted : h.answer ≡ start.Accepted → r ≡ turn_of said.Nothing stage.Made h.row → r ≡ start_done b row s
+  pub start_accepted : h.answer ≡ (Ok tt) → r ≡ turn_of said.Nothing stage.Made h.row → r ≡ start_done b row s
   start_accepted a g = rw (← f, a, g)
 
-  pub start_refused_lem : (x : Refusal) → h.answer ≡ start.Refused x → r ≡ turn_of (said.Refused x) stage.Made h.row → r ≡ start_done b row s
+  pub start_refused_lem : (x : Refusal) → h.answer ≡ Err x → r ≡ turn_of (said.Refused x) stage.Made h.row → r ≡ start_done b row s
   start_refused_lem x a g = rw (← f, a, g)
 
 pub ruleset starts = (start_accepted, start_refused_lem)
 
 -- the steps
 module _ (w : StepOut) (b : List ℕ) (row : List Process) (n left : ℕ) (inv : w ≡ steps_of left b row n) where
-  module _ (b' : List ℕ) (h : HeldStep) (t : Bool) (some : 0 < left) (f : step_out h.answer b' h.row ≡ step_call b row n) (g : t ≡ goes_on h.answer) where
+  module _ (b' : List ℕ) (h : Held Result Progress Refusal 32) (t : Bool) (some : 0 < left) (f : step_out h.answer b' h.row ≡ step_call b row n) (g : t ≡ goes_on h.answer) where
     pub steps_again : t ≡ true → w ≡ steps_of (left - 1) b' h.row n
     unfolding steps_of pick
     steps_again on = go left some inv
@@ -108,11 +104,11 @@ module _ (w : StepOut) (b : List ℕ) (row : List Process) (n left : ℕ) (inv :
         go zero p q = absurd (omega arith)
         go (suc m) p q = sym (q ∙ rw (← f, ← g, off))
 
-  pub steps_over : left ≤ 0 → step_out step.GoesOn b row ≡ w
+  pub steps_over : left ≤ 0 → step_out (Ok step.GoesOn) b row ≡ w
   unfolding steps_of
   steps_over p = go left p inv
     where
-      go : (m : ℕ) → m ≤ 0 → w ≡ steps_of m b row n → step_out step.GoesOn b row ≡ w
+      go : (m : ℕ) → m ≤ 0 → w ≡ steps_of m b row n → step_out (Ok step.GoesOn) b row ≡ w
       go zero p q = sym q
       go (suc m) p q = absurd (omega arith)
 
@@ -129,21 +125,21 @@ module _ (row : List Process) (n at : ℕ) (e : at ≡ n - 1) where
 pub ruleset records = (record_in, record_past)
 
 -- what an answer says
-module _ (n : ℕ) (q : Process) (a : StepAnswer) where
-  pub says_nothing : a ≡ step.GoesOn → said.Nothing ≡ steps_said n q a
+module _ (n : ℕ) (q : Process) (a : Result Progress Refusal) where
+  pub says_nothing : a ≡ (Ok step.GoesOn) → said.Nothing ≡ steps_said n q a
   says_nothing e = rw e
 
   pub says_answer : (x : Answer) (steps k : ℕ) → a ≡ step.Ended x steps → k ≡ answer_number x →
       said.Answered (record { process = n; op = q.operation; key = q.key; answer = k; steps = steps }) ≡ steps_said n q a
   says_answer x steps k e f = rw (e, f)
 
-  pub says_refused : (x : Refusal) → a ≡ step.Refused x → said.Refused x ≡ steps_said n q a
+  pub says_refused : (x : Refusal) → a ≡ Err x → said.Refused x ≡ steps_said n q a
   says_refused x e = rw e
 
 pub ruleset answers = (says_nothing, says_answer, says_refused)
 
 -- a step line
-pub step_line_by : (b b' : List ℕ) (row : List Process) (s : StepLine) (q : Process) (h : HeldStep) (x : Said) (r : Turn) → q ≡ record_of row s.process →
+pub step_line_by : (b b' : List ℕ) (row : List Process) (s : StepLine) (q : Process) (h : Held Result Progress Refusal 32) (x : Said) (r : Turn) → q ≡ record_of row s.process →
     step_out h.answer b' h.row ≡ steps_of s.times b row s.process → x ≡ steps_said s.process q h.answer → r ≡ turn_of x stage.Made h.row → did r b' ≡ steps_done b row s
 step_line_by b b' row s q h x r e f g i = rw (← f, ← e, ← g, i)
 

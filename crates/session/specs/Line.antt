@@ -4,15 +4,11 @@ use Rattle.tables.specs.Choice.{pick, both}
 use Rattle.tables.specs.Header.{header_of}
 use Rattle.tables.specs.Refusal.{refusal}
 use Rattle.tables.specs.declared.numbers.Refusal.{Refusal}
-use Rattle.fresh.specs.declared.Made.{Made}
-use Rattle.fresh.specs.declared.Made.TheVariants as made
 use Rattle.process.specs.Process.{idle}
 use Rattle.process.specs.Answer.{answer_number}
 use Rattle.process.specs.declared.Process.{Process}
-use Rattle.process.specs.declared.StepAnswer.{StepAnswer}
-use Rattle.process.specs.declared.StepAnswer.TheVariants as step
-use Rattle.points.specs.declared.start.StartAnswer.{StartAnswer}
-use Rattle.points.specs.declared.start.StartAnswer.TheVariants as start
+use Rattle.process.specs.declared.Progress.{Progress}
+use Rattle.process.specs.declared.Progress.TheVariants as step
 use Rattle.make.specs.Make.{make_call}
 use Rattle.index.specs.Calls.{record_of, start_call, step_call, StepOut, step_out}
 use Rattle.walk.specs.Calls.{list_of}
@@ -73,9 +69,9 @@ ended_by n row = turn_of (said.Refused (refusal n)) stage.Ended row
 abbrev pub refused_by : ℕ → List Process → Turn
 refused_by n row = turn_of (said.Refused (refusal n)) stage.Made row
 
-abbrev pub made_turn : Made → List Process → Turn
-made_turn made.Done row = turn_of said.Nothing stage.Made row
-made_turn (made.Refused e) row = turn_of (said.Refused e) stage.Ended row
+abbrev pub made_turn : Result (Unit {0}) Refusal → List Process → Turn
+made_turn (Ok tt) row = turn_of said.Nothing stage.Made row
+made_turn (Err e) row = turn_of (said.Refused e) stage.Ended row
 
 abbrev pub making_done : List ℕ → List Process → Making → Did
 making_done b row m =
@@ -91,9 +87,9 @@ first_done b row line.List = did (ended_by 11 row) b
 first_done b row line.NotInForm = did (ended_by 11 row) b
 
 -- "An accepted start .. print[s] nothing."
-abbrev pub start_turn : StartAnswer → List Process → Turn
-start_turn start.Accepted row = turn_of said.Nothing stage.Made row
-start_turn (start.Refused e) row = turn_of (said.Refused e) stage.Made row
+abbrev pub start_turn : Result (Unit {0}) Refusal → List Process → Turn
+start_turn (Ok tt) row = turn_of said.Nothing stage.Made row
+start_turn (Err e) row = turn_of (said.Refused e) stage.Made row
 
 abbrev pub start_done : List ℕ → List Process → StartLine → Turn
 start_done b row s =
@@ -101,23 +97,23 @@ start_done b row s =
     start_turn o.answer o.row
 
 -- "`times` ends early at an answer or a refusal."
-abbrev pub goes_on : StepAnswer → Bool
-goes_on step.GoesOn = true
-goes_on (step.Ended a n) = false
-goes_on (step.Refused e) = false
+abbrev pub goes_on : Result Progress Refusal → Bool
+goes_on (Ok step.GoesOn) = true
+goes_on (Ok (step.Ended a n)) = false
+goes_on (Err e) = false
 
 unfoldable pub steps_of : ℕ → List ℕ → List Process → ℕ → StepOut
-steps_of zero b row n = step_out step.GoesOn b row
+steps_of zero b row n = step_out (Ok step.GoesOn) b row
 steps_of (suc times) b row n =
     let o = step_call b row n in
     pick (goes_on o.answer) (steps_of times o.block o.row n) o
 
 -- the answer of process n, which was busy with what its record q says
-abbrev pub steps_said : ℕ → Process → StepAnswer → Said
-steps_said n q step.GoesOn = said.Nothing
-steps_said n q (step.Ended a steps) =
+abbrev pub steps_said : ℕ → Process → Result Progress Refusal → Said
+steps_said n q (Ok step.GoesOn) = said.Nothing
+steps_said n q (Ok (step.Ended a steps)) =
     said.Answered (record { process = n; op = q.operation; key = q.key; answer = answer_number a; steps = steps })
-steps_said n q (step.Refused e) = said.Refused e
+steps_said n q (Err e) = said.Refused e
 
 abbrev pub steps_done : List ℕ → List Process → StepLine → Did
 steps_done b row s =

@@ -6,7 +6,7 @@ ghost use Rattle.session.specs.declared.line.Said.TheVariants.{Refused};
 ghost use Rattle.session.specs.declared.line.Stage.TheVariants.{Ended, Made as MadeStage};
 
 use fresh::Made;
-use held::HeldStep;
+use held::Held;
 use points::start::StartAnswer;
 use print::lines::{AnswerLine, CountLine, Making, StartLine, StepLine};
 use process::{Process, StepAnswer};
@@ -150,7 +150,7 @@ fn goes_on(answer: StepAnswer) -> bool
 }
 
 // "`times` ends early at an answer or a refusal."
-fn steps(block: &mut [u32], row: [Process; 32], process: u32, times: u32) -> HeldStep
+fn steps(block: &mut [u32], row: [Process; 32], process: u32, times: u32) -> Held<StepAnswer, 32>
     ensures { step_out result.answer block.new result.row ≡ steps_of times block.old row process }
 {
     let mut now = row;
@@ -166,7 +166,7 @@ fn steps(block: &mut [u32], row: [Process; 32], process: u32, times: u32) -> Hel
             return h;
         }
     }
-    HeldStep {
+    Held {
         answer: StepAnswer::GoesOn,
         row: now,
     }

@@ -1,4 +1,3 @@
--- The laws of the steps that are left, of an operation, and of the work.
-pub mod Turns
+-- The laws of an operation, and of the work.
 pub mod Operations
 pub mod Works

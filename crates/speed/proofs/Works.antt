@@ -1,14 +1,12 @@
 -- Laws of the work: what a change asks, and what a turn of each loop comes to.
-use Rattle.std.proofs.Common.{◌≡◌, ℕ, zero, suc, ◌+◌, ◌-◌, ◌*◌, ◌/◌, ◌%◌, ◌^◌, ◌<◌, ◌≤◌, Bool, true, false, not, eqb, ltb, List, replicate, sym, refl, ap, ◌∙◌, subst, arith, eq-eqb, ne_eqb}
-use borrow.Author.Tests.{not-true, not-false}
+use Rattle.std.proofs.Common.{◌≡◌, ℕ, ◌+◌, ◌-◌, ◌*◌, ◌<◌, ◌≤◌, Bool, true, false, ltb, List, Option, sym, ap, ◌∙◌, arith}
 use Rattle.tables.specs.Choice.{pick}
 use Rattle.tables.proofs.Lists.{left_over}
-use Rattle.speed.specs.Work.{period_of, change_of, TurnOut, turn_out, turn_of, DoneOut, done_out, so_far, done_from, nothing_yet, RoundOut, round_out, fresh_of, changed, after_finds, after_filling, round_of, rounds_from}
+use Rattle.speed.specs.Operation.{OperateOut, operate_out}
+use Rattle.speed.specs.Work.{period_of, is_over, tallied_of, turn_of, DoneOut, done_out, done_from, RoundOut, round_out, fresh_of, changed, after_finds, after_filling, round_of, rounds_from}
 use Rattle.speed.specs.declared.work.Work.{Work}
+use Rattle.speed.specs.declared.work.Ending.{Ending}
 use Rattle.speed.specs.declared.work.Tally.{Tally}
-use Rattle.speed.specs.declared.work.Asked.{Asked}
-use Rattle.speed.specs.declared.work.Counted.{Counted}
-use Rattle.speed.specs.declared.work.Done.{Done}
 use Rattle.speed.specs.declared.work.Part.{Part}
 use Rattle.speed.specs.declared.work.Part.TheVariants as parts
 
@@ -18,70 +16,41 @@ positive true n = omega arith
 positive false n = omega arith
 
 pub period_some : (count m : ℕ) → m ≡ period_of count → 0 < m
-period_some count m e = subst (λ (k : ℕ). 0 < k) (sym e) (positive (ltb count 1000000) count)
+period_some count m e = rw e (positive (ltb count 1000000) count)
 
-pub goes : (count i h : ℕ) → eqb (i % 2) 0 ≡ true → h ≡ i / 2 → ◌≡◌ {A = Asked} (record { operation = 3; number = h }) (change_of count i)
-unfolding pick
-goes count i h e f = rw (e, f) refl
+-- an operation of a part, where some are left
+module _ {out : DoneOut} (p : Part) (number i : ℕ) (e : Option Ending) (t t' : Tally) (over : Bool) (b b' : List ℕ)
+    (some : i < number) (did : operate_out e b' ≡ turn_of p i b) (counted : t' ≡ tallied_of t e) (ends : over ≡ is_over e) (so : done_from p (number - i) i t b ≡ out) where
+  done : pick over (done_out t' (i + 1) b') (done_from p (number - (i + 1)) (i + 1) t' b') ≡ out
+  unfolding done_from
+  done = rw (ends, counted) (ap (λ (o : OperateOut). pick (is_over o.ending) (done_out (tallied_of t o.ending) (i + 1) o.block) (done_from p (number - (i + 1)) (i + 1) (tallied_of t o.ending) o.block)) did
+      ∙ (sym (ap (λ (n : ℕ). done_from p n i t b) (left_over number i some)) ∙ so))
 
-pub comes : (count i n : ℕ) → eqb (i % 2) 0 ≡ false → n ≡ (count + i / 2) % 2 ^ 32 → ◌≡◌ {A = Asked} (record { operation = 2; number = n }) (change_of count i)
-unfolding pick
-comes count i n e f = rw (e, f) refl
+  pub last : over ≡ true → done_out t' (i + 1) b' ≡ out
+  unfolding pick
+  last is = rw is at done
 
-pub ruleset changes = (goes, comes, eq-eqb, ne_eqb)
+  pub next : over ≡ false → done_from p (number - (i + 1)) (i + 1) t' b' ≡ out
+  unfolding pick
+  next is = rw is at done
 
--- one operation of a part, where some are left and none was over
-one_more : (p : Part) (count n i : ℕ) (t : Tally) (b : List ℕ) → done_from p count (suc n) i false t b ≡ done_from p count n (i + 1) (turn_of p count i t b).counted.over (turn_of p count i t b).counted.tally (turn_of p count i t b).block
+-- none is left
+pub all_done : {out : DoneOut} (p : Part) (number i : ℕ) (t : Tally) (b : List ℕ) → number ≤ i → i ≤ number → done_from p (number - i) i t b ≡ out → done_out t number b ≡ out
 unfolding done_from
-one_more p count n i t b = refl
-
-pub a_turn : {out : DoneOut} (p : Part) (count number i : ℕ) (c : Counted) (t : Tally) (was : Bool) (b b' : List ℕ) → i < number → not was ≡ true → turn_out c b' ≡ turn_of p count i t b
-    → done_from p count (number - i) i was t b ≡ out → done_from p count (number - (i + 1)) (i + 1) c.over c.tally b' ≡ out
-a_turn {out} p count number i c t was b b' l ew e so =
-    ap (λ (o : TurnOut). done_from p count (number - (i + 1)) (i + 1) o.counted.over o.counted.tally o.block) e
-    ∙ (sym (one_more p count (number - (i + 1)) i t b)
-    ∙ (sym (ap (λ (n : ℕ). done_from p count n i false t b) (left_over number i l))
-    ∙ (sym (ap (λ (v : Bool). done_from p count (number - i) i v t b) (not-true was ew)) ∙ so)))
-
--- a part is at its end where none is left, or where one was over
-none_left : (p : Part) (count i : ℕ) (over : Bool) (t : Tally) (b : List ℕ) → done_from p count 0 i over t b ≡ done_out (so_far t i) b
-unfolding done_from
-none_left p count i over t b = refl
-
-was_over : (p : Part) (count n i : ℕ) (t : Tally) (b : List ℕ) → done_from p count n i true t b ≡ done_out (so_far t i) b
-unfolding done_from
-was_over p count zero i t b = refl
-was_over p count (suc n) i t b = refl
-
-no_more : (number i : ℕ) → number ≤ i → number - i ≡ 0
-no_more number i l = omega (arith, l)
-
-pub all_done : {out : DoneOut} (p : Part) (count number i : ℕ) (over : Bool) (t : Tally) (b : List ℕ) → number ≤ i → done_from p count (number - i) i over t b ≡ out → done_out (so_far t i) b ≡ out
-all_done {out} p count number i over t b l so = sym (none_left p count i over t b) ∙ (sym (ap (λ (n : ℕ). done_from p count n i over t b) (no_more number i l)) ∙ so)
-
-pub over_done : {out : DoneOut} (p : Part) (count number i : ℕ) (over : Bool) (t : Tally) (b : List ℕ) → not over ≡ false → done_from p count (number - i) i over t b ≡ out → done_out (so_far t i) b ≡ out
-over_done {out} p count number i over t b e so = sym (was_over p count (number - i) i t b) ∙ (sym (ap (λ (v : Bool). done_from p count (number - i) i v t b) (not-false over e)) ∙ so)
+all_done p number i t b l m so = rw (let same : number ≡ i = omega (arith, l, m) in same) (sym (ap (λ (n : ℕ). done_from p n i t b) (let none : number - i ≡ 0 = omega (arith, l) in none)) ∙ so)
 
 -- a round, from what its making and its three parts come to
-pub a_round : (w : Work) (t : Tally) (b b₁ b₂ b₃ b₄ : List ℕ) (f s c : Done) → done_out c b₄ ≡ done_from parts.Changing f.count w.changes 0 false s.tally b₃ → done_out s b₃ ≡ done_from parts.Finding f.count w.finds 0 false f.tally b₂
-    → done_out f b₂ ≡ done_from parts.Filling 0 w.keys 0 false t b₁ → b₁ ≡ fresh_of w b → round_out c.tally b₄ ≡ round_of w t b
+pub a_round : (w : Work) (t t₁ t₂ t₃ : Tally) (b b₁ b₂ b₃ b₄ : List ℕ) (count m n : ℕ) → b₁ ≡ fresh_of w b → done_out t₁ count b₂ ≡ done_from parts.Filling w.keys 0 t b₁
+    → done_out t₂ m b₃ ≡ done_from (parts.Finding count) w.finds 0 t₁ b₂ → done_out t₃ n b₄ ≡ done_from (parts.Changing count) w.changes 0 t₂ b₃ → round_out t₃ b₄ ≡ round_of w t b
 unfolding round_of
-a_round w t b b₁ b₂ b₃ b₄ f s c ec es ef em =
-    ap changed ec
-    ∙ (ap (after_finds w f.count) es
-    ∙ (ap (after_filling w) ef
-    ∙ ap (λ (l : List ℕ). after_filling w (done_from parts.Filling 0 w.keys 0 false t l)) em))
+a_round w t t₁ t₂ t₃ b b₁ b₂ b₃ b₄ count m n em ef es ec =
+    ap changed ec ∙ (ap (after_finds w count) es ∙ (ap (after_filling w) ef ∙ ap (λ (l : List ℕ). after_filling w (done_from parts.Filling w.keys 0 t l)) em))
 
-more_rounds : (n : ℕ) (w : Work) (t t' : Tally) (b b' : List ℕ) → round_out t' b' ≡ round_of w t b → rounds_from (suc n) w t b ≡ rounds_from n w t' b'
-unfolding rounds_from
-more_rounds n w t t' b b' e = sym (ap (λ (o : RoundOut). rounds_from n w o.tally o.block) e)
-
+-- a round, where some are left, and none left
 pub next_round : {out : RoundOut} (number i : ℕ) (w : Work) (t t' : Tally) (b b' : List ℕ) → i < number → round_out t' b' ≡ round_of w t b → rounds_from (number - i) w t b ≡ out → rounds_from (number - (i + 1)) w t' b' ≡ out
-next_round {out} number i w t t' b b' l e so = sym (more_rounds (number - (i + 1)) w t t' b b' e) ∙ (sym (ap (λ (n : ℕ). rounds_from n w t b) (left_over number i l)) ∙ so)
-
-no_round : (w : Work) (t : Tally) (b : List ℕ) → rounds_from 0 w t b ≡ round_out t b
 unfolding rounds_from
-no_round w t b = refl
+next_round number i w t t' b b' l e so = ap (λ (o : RoundOut). rounds_from (number - (i + 1)) w o.tally o.block) e ∙ (sym (ap (λ (n : ℕ). rounds_from n w t b) (left_over number i l)) ∙ so)
 
-pub all_rounds : (number i : ℕ) (w : Work) (t₀ t : Tally) (b₀ b : List ℕ) → number ≤ i → t₀ ≡ nothing_yet → rounds_from (number - i) w t b ≡ rounds_from number w t₀ b₀ → round_out t b ≡ rounds_from number w nothing_yet b₀
-all_rounds number i w t₀ t b₀ b l e so = sym (no_round w t b) ∙ (sym (ap (λ (n : ℕ). rounds_from n w t b) (no_more number i l)) ∙ (so ∙ ap (λ (x : Tally). rounds_from number w x b₀) e))
+pub all_rounds : {out : RoundOut} (number i : ℕ) (w : Work) (t : Tally) (b : List ℕ) → number ≤ i → rounds_from (number - i) w t b ≡ out → round_out t b ≡ out
+unfolding rounds_from
+all_rounds number i w t b l so = sym (ap (λ (n : ℕ). rounds_from n w t b) (let none : number - i ≡ 0 = omega (arith, l) in none)) ∙ so

@@ -15,82 +15,55 @@ const BLOCK_WORDS: usize = 102915;
 
 const TEXT_BYTES: usize = 256;
 
-fn is_digit(byte: u8) -> bool {
-    if byte < b'0' { false } else { byte <= b'9' }
-}
-
 // A digit more; past nine digits no more is read.
-fn with_digit(n: u32, byte: u8) -> u32 {
-    if byte < b'0' {
-        return n;
-    }
-    let digit = byte - b'0';
-    if 9 < digit {
-        return n;
-    }
+fn with_digit(n: u32, digit: u8) -> u32 {
     if n < 100000000 {
-        n * 10 + (digit as u32)
+        n * 10 + u32::from(digit.saturating_sub(b'0'))
     } else {
         n
     }
 }
 
-// Behind a number's last digit the next one's place comes.
-fn place_after(at: usize, inside: bool, digit: bool) -> usize
-    ensures { result ≤ 7 }
-{
-    if at < 7 {
-        if inside && !digit { at + 1 } else { at }
-    } else {
-        7
-    }
+fn number_of(digits: &[u8]) -> u32 {
+    digits.iter().fold(0, |n, digit| with_digit(n, *digit))
 }
 
-// The numbers of a text, whatever stands between them; 0 for those that are missing.
-fn numbers_in(text: &[u8]) -> [u32; 8] {
-    let mut found = [0u32; 8];
-    let mut at: usize = 0;
-    let mut inside = false;
-    let mut i: usize = 0;
-    while i < text.len() {
-        let byte = text[i];
-        let digit = is_digit(byte);
-        at = place_after(at, inside, digit);
-        found[at] = with_digit(found[at], byte);
-        inside = digit;
-        i += 1;
-    }
-    found
-}
-
+// The numbers of a text, in their order, whatever stands between them; 0 for those that are missing.
 fn work_of(text: &[u8]) -> Work {
-    let n = numbers_in(text);
+    let numbers = text
+        .split(|byte| !byte.is_ascii_digit())
+        .filter(|digits| !digits.is_empty());
+    let mut found = [0u32; 7];
+    for (number, digits) in found.iter_mut().zip(numbers) {
+        *number = number_of(digits);
+    }
+    let [k, nodes, records, keys, finds, changes, rounds] = found;
     Work {
-        k: n[0],
-        nodes: n[1],
-        records: n[2],
-        keys: n[3],
-        finds: n[4],
-        changes: n[5],
-        rounds: n[6],
+        k,
+        nodes,
+        records,
+        keys,
+        finds,
+        changes,
+        rounds,
     }
 }
 
 // A write that fails is passed over, as is what is left of its line.
-fn show(rt: &impl Print, name: &str, n: u64) {
-    let _ = print!(rt; "{name}{n}");
-}
-
 fn report(rt: &impl Print, block: &[u32], t: Tally) {
-    show(rt, "yes=", t.yes);
-    show(rt, " no=", t.no);
-    show(rt, " full=", t.full);
-    show(rt, " refused=", t.refused);
-    show(rt, " steps=", t.steps);
-    show(rt, " nodes=", words::word_at(block, 3) as u64);
-    show(rt, " records=", words::word_at(block, 5) as u64);
-    show(rt, " sum=", t.sum as u64);
-    let _ = rt.write_all(b"\n");
+    let Tally {
+        yes,
+        no,
+        full,
+        refused,
+        steps,
+        sum,
+    } = t;
+    let nodes = words::word_at(block, 3);
+    let records = words::word_at(block, 5);
+    let _ = println!(rt;
+        "yes={yes} no={no} full={full} refused={refused} steps={steps} nodes={nodes} records={records} sum={sum}"
+    );
 }
 
 // How many bytes one read puts at the front of the text; none where it fails, as at the end of the input.
@@ -100,7 +73,7 @@ fn read_some(input: &mut impl Read, text: &mut [u8]) -> usize
     input.read(text).unwrap_or(0)
 }
 
-// Reads until the text is full or the input ends, and says how many bytes it put at the front of the text.
+// Reads until the text is full or the input ends, and says how many bytes it put at the front of the text. The library's `read_to_end` needs a heap.
 fn read_full(input: &mut impl Read, text: &mut [u8]) -> usize
     ensures { result ≤ length text.new }
 {

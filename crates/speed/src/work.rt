@@ -1,18 +1,16 @@
 // The work that is timed: a tree is made and filled, keys are sought in it, and keys go and come until there is no room.
-ghost use Rattle.std.specs.Prelude.{◌≡◌, false};
-ghost use Rattle.index.specs.Calls.{start_call};
-ghost use Rattle.speed.specs.Steps.{left_after, steps_out, steps_from};
+ghost use Rattle.std.specs.Prelude.{◌≡◌};
+ghost use Rattle.speed.specs.Steps.{steps_out, steps_from};
 ghost use Rattle.speed.specs.Operation.{ending_of, operate_out, operate_of};
-ghost use Rattle.speed.specs.Work.{key_of, is_over, one_if, mixed_of, tallied_of, nothing_yet, period_of, asked_of, change_of, turn_out, turn_of, done_out, done_from, fresh_of, round_out, round_of, rounds_from};
+ghost use Rattle.speed.specs.Work.{key_of, is_over, mixed_of, tallied_of, nothing_yet, period_of, asked_of, change_of, turn_of, done_out, done_from, fresh_of, round_out, round_of, rounds_from};
 
-use process::{Process, StepAnswer};
-use tables::words;
+use process::{Answer, Process, StepAnswer};
 
 // More steps than any operation of a process alone takes.
 const MOST_STEPS: u32 = 1000000;
 
-// Beside the paper's 0 no, 1 yes, 2 full.
-const REFUSED: u32 = 3;
+// In the sum, beside the paper's 0 no, 1 yes, 2 full; the peer adds the same.
+const NO_ANSWER: u32 = 3;
 
 // A prime below infinity.
 const PRIME: u64 = 4294967291;
@@ -29,14 +27,15 @@ pub struct Work {
     pub rounds: u32,
 }
 
+// What an operation answered, and in how many steps.
 #[derive(Clone, Copy)]
 struct Ending {
-    answer: u32,
+    answer: Answer,
     steps: u32,
 }
 
 // How the operations ended, their steps in all, and a sum in which their order counts.
-#[derive(Clone, Copy)]
+#[derive(Clone, Copy, Default)]
 pub struct Tally {
     pub yes: u64,
     pub no: u64,
@@ -46,12 +45,12 @@ pub struct Tally {
     pub sum: u32,
 }
 
-// A tree is filled, then keys are sought in it, then keys go and come.
+// A tree is filled, then keys are sought in it, then keys go and come; these two after so many keys were inserted.
 #[derive(Clone, Copy)]
 enum Part {
     Filling,
-    Finding,
-    Changing,
+    Finding(u32),
+    Changing(u32),
 }
 
 // An operation, and the number of its key.
@@ -61,163 +60,106 @@ struct Asked {
     number: u32,
 }
 
-// The tally after an operation, and whether it is the last of its part.
-#[derive(Clone, Copy)]
-struct Counted {
-    tally: Tally,
-    over: bool,
-}
-
-// The tally after a part, and how many operations were tried.
-#[derive(Clone, Copy)]
-struct Done {
-    tally: Tally,
-    count: u32,
-}
-
 // Keys that are all different, in no order, and below infinity.
 fn key_of(i: u32) -> u32
     ensures { result ≡ key_of i }
 {
-    (((i as u64) + 1) * 2654435761 % PRIME) as u32
+    ((u64::from(i) + 1) * 2654435761 % PRIME) as u32
 }
 
-// A start of process 1 in a lent row of one record.
-fn begin(block: &[u32], held: [Process; 1], operation: u32, key: u32) -> [Process; 1]
-    ensures { result ≡ (start_call block.now held 1 operation key).row }
+// Steps of process 1 in a row of one record, until an answer or a refusal; at most so many.
+fn steps(block: &mut [u32], held: [Process; 1], most: u32) -> StepAnswer
+    ensures { steps_out result block.new ≡ steps_from most block.old held }
 {
     let mut row = held;
-    index::start(block, &mut row, 1, operation, key);
-    row
-}
-
-// The steps still allowed: none once an answer or a refusal is there.
-fn left_after(left: u32, answer: StepAnswer) -> u32
-    ensures { result ≡ left_after left answer }
-{
-    match answer {
-        StepAnswer::GoesOn => left.saturating_sub(1),
-        StepAnswer::Ended(_, _) => 0,
-        StepAnswer::Refused(_) => 0,
+    for _ in 0..most {
+        match index::step(block, &mut row, 1) {
+            StepAnswer::GoesOn => {}
+            answer => return answer,
+        }
     }
+    StepAnswer::GoesOn
 }
 
-// Steps of process 1 in a lent row of one record, until an answer or a refusal; at most so many, and with none, what was said before.
-fn steps(block: &mut [u32], held: [Process; 1], before: StepAnswer, most: u32) -> StepAnswer
-    ensures { steps_out result block.new ≡ steps_from most before block.old held }
-{
-    let mut row = held;
-    let mut answer = before;
-    let mut left = most;
-    while left > 0 {
-        answer = index::step(block, &mut row, 1);
-        left = left_after(left, answer);
-    }
-    answer
-}
-
-fn ending_of(answer: StepAnswer) -> Ending
+fn ending_of(answer: StepAnswer) -> Option<Ending>
     ensures { result ≡ ending_of answer }
 {
     match answer {
-        StepAnswer::GoesOn => Ending {
-            answer: REFUSED,
-            steps: 0,
-        },
-        StepAnswer::Ended(a, n) => Ending {
-            answer: process::number_of(a),
-            steps: n,
-        },
-        StepAnswer::Refused(_) => Ending {
-            answer: REFUSED,
-            steps: 0,
-        },
+        StepAnswer::Ended(answer, steps) => Some(Ending { answer, steps }),
+        StepAnswer::GoesOn | StepAnswer::Refused(_) => None,
     }
 }
 
-// One operation of process 1, from its start to its answer.
-fn operate(block: &mut [u32], operation: u32, key: u32) -> Ending
+// One operation of process 1, from its start to its answer; none if it is refused, or has none after so many steps.
+#[tactic(auto, unfolding(crate::specs::Operation::operate_of))]
+fn operate(block: &mut [u32], operation: u32, key: u32) -> Option<Ending>
     ensures { operate_out result block.new ≡ operate_of block.old operation key }
 {
-    let idle = [process::idle_record(); 1];
-    let started = begin(block, idle, operation, key);
-    let answer = steps(block, started, StepAnswer::GoesOn, MOST_STEPS);
-    ending_of(answer)
+    let mut row = [process::idle_record(); 1];
+    index::start(block, &mut row, 1, operation, key);
+    ending_of(steps(block, row, MOST_STEPS))
 }
 
 // Full or refused: no more of its part is done.
-fn is_over(e: Ending) -> bool
+fn is_over(e: Option<Ending>) -> bool
     ensures { result ≡ is_over e }
 {
-    tables::choice::below(1, e.answer as u64)
-}
-
-fn one_if(answer: u32, wanted: u32) -> u64
-    ensures { result ≡ one_if answer wanted }
-{
-    if answer == wanted { 1 } else { 0 }
+    e.is_none_or(|e| matches!(e.answer, Answer::Full))
 }
 
 fn mixed(sum: u32, answer: u32, steps: u32) -> u32
     ensures { result ≡ mixed_of sum answer steps }
 {
-    (((sum as u64) * 31 + (steps as u64) * 4 + (answer as u64)) % PRIME) as u32
+    ((u64::from(sum) * 31 + u64::from(steps) * 4 + u64::from(answer)) % PRIME) as u32
 }
 
-fn tallied(t: Tally, e: Ending) -> Tally
-    ensures { result ≡ tallied_of t e }
-{
-    let a = e.answer;
-    Tally {
-        yes: std::num::wrapping_add_u64(t.yes, one_if(a, 1)),
-        no: std::num::wrapping_add_u64(t.no, one_if(a, 0)),
-        full: std::num::wrapping_add_u64(t.full, one_if(a, 2)),
-        refused: std::num::wrapping_add_u64(t.refused, one_if(a, REFUSED)),
-        steps: std::num::wrapping_add_u64(t.steps, e.steps as u64),
-        sum: mixed(t.sum, a, e.steps),
-    }
-}
-
-fn nothing() -> Tally
-    ensures { result ≡ nothing_yet }
-{
-    Tally {
-        yes: 0,
-        no: 0,
-        full: 0,
-        refused: 0,
-        steps: 0,
-        sum: 0,
+impl Tally {
+    // One operation more.
+    #[tactic(auto, unfolding(tables::specs::Choice::pick))]
+    fn count(&mut self, e: Option<Ending>)
+        ensures { self.new ≡ tallied_of self.old e }
+    {
+        let (number, steps) = match e {
+            Some(e) => (process::number_of(e.answer), e.steps),
+            None => (NO_ANSWER, 0),
+        };
+        match e.map(|e| e.answer) {
+            Some(Answer::No) => self.no = self.no.wrapping_add(1),
+            Some(Answer::Yes) => self.yes = self.yes.wrapping_add(1),
+            Some(Answer::Full) => self.full = self.full.wrapping_add(1),
+            None => self.refused = self.refused.wrapping_add(1),
+        }
+        self.steps = self.steps.wrapping_add(u64::from(steps));
+        self.sum = mixed(self.sum, number, steps);
     }
 }
 
 // Finds come round again after twice as many keys as were inserted, so that half of those sought were.
+#[tactic(auto, unfolding(tables::specs::Choice::pick))]
 fn period(count: u32) -> u32
     ensures { result ≡ period_of count }
 {
     if count < 1000000 { 2 * count + 2 } else { 1 }
 }
 
-// What operation i of a part asks, where so many keys were inserted. In a change the oldest key goes, or a new one comes.
-fn asks(part: Part, count: u32, i: u32) -> Asked
-    ensures { result ≡ asked_of part count i }
+// What operation i of a part asks. In a change the oldest key goes, or a new one comes.
+fn asks(part: Part, i: u32) -> Asked
+    ensures { result ≡ asked_of part i }
 {
     match part {
         Part::Filling => Asked {
             operation: process::INSERT,
             number: i,
         },
-        Part::Finding => {
-            let m = period(count);
-            Asked {
-                operation: process::FIND,
-                number: i % m,
-            }
-        }
-        Part::Changing => change(count, i),
+        Part::Finding(count) => Asked {
+            operation: process::FIND,
+            number: i % period(count),
+        },
+        Part::Changing(count) => change(count, i),
     }
 }
 
+#[tactic(auto, unfolding(tables::specs::Choice::pick))]
 fn change(count: u32, i: u32) -> Asked
     ensures { result ≡ change_of count i }
 {
@@ -229,68 +171,63 @@ fn change(count: u32, i: u32) -> Asked
     } else {
         Asked {
             operation: process::INSERT,
-            number: std::num::wrapping_add_u32(count, i / 2),
+            number: count.wrapping_add(i / 2),
         }
     }
 }
 
 // Operation i of a part.
-fn turn(block: &mut [u32], part: Part, count: u32, i: u32, t: Tally) -> Counted
-    ensures { turn_out result block.new ≡ turn_of part count i t block.old }
+fn turn(block: &mut [u32], part: Part, i: u32) -> Option<Ending>
+    ensures { operate_out result block.new ≡ turn_of part i block.old }
 {
-    let a = asks(part, count, i);
-    let e = operate(block, a.operation, key_of(a.number));
-    let tally = tallied(t, e);
-    let over = is_over(e);
-    Counted { tally, over }
+    let a = asks(part, i);
+    operate(block, a.operation, key_of(a.number))
 }
 
-// So many operations of a part, or until one is over.
-fn perform(block: &mut [u32], part: Part, count: u32, number: u32, t: Tally) -> Done
-    ensures { done_out result block.new ≡ done_from part count number 0 false t block.old }
+// So many operations of a part, or until one is over; says how many were tried.
+fn perform(block: &mut [u32], part: Part, number: u32, tally: &mut Tally) -> u32
+    ensures { done_out tally.new result block.new ≡ done_from part number 0 tally.old block.old }
 {
-    let mut tally = t;
-    let mut i: u32 = 0;
-    let mut over = false;
-    while i < number && !over {
-        let c = turn(block, part, count, i, tally);
-        let after = c.tally;
-        tally = after;
-        over = c.over;
-        i += 1;
+    for i in 0..number {
+        let e = turn(block, part, i);
+        tally.count(e);
+        if is_over(e) {
+            return i + 1;
+        }
     }
-    Done { tally, count: i }
+    number
 }
 
 // A fresh tree for one process; a making that is refused leaves the block as it was.
 fn fresh(block: &mut [u32], w: Work)
     ensures { block.new ≡ fresh_of w block.old }
 {
-    let row = [process::idle_record(); 32];
-    held::make_held(block, row, w.k, 1, w.nodes, w.records);
+    held::make_held(
+        block,
+        [process::idle_record(); 1],
+        w.k,
+        1,
+        w.nodes,
+        w.records,
+    );
 }
 
 // A tree, and all that is to be done on it.
-fn round(block: &mut [u32], w: Work, t: Tally) -> Tally
-    ensures { round_out result block.new ≡ round_of w t block.old }
+fn round(block: &mut [u32], w: Work, tally: &mut Tally)
+    ensures { round_out tally.new block.new ≡ round_of w tally.old block.old }
 {
     fresh(block, w);
-    let f = perform(block, Part::Filling, 0, w.keys, t);
-    let filled = f.tally;
-    let s = perform(block, Part::Finding, f.count, w.finds, filled);
-    let sought = s.tally;
-    let c = perform(block, Part::Changing, f.count, w.changes, sought);
-    c.tally
+    let count = perform(block, Part::Filling, w.keys, tally);
+    perform(block, Part::Finding(count), w.finds, tally);
+    perform(block, Part::Changing(count), w.changes, tally);
 }
 
 pub fn rounds(block: &mut [u32], w: Work) -> Tally
     ensures { round_out result block.new ≡ rounds_from w.rounds w nothing_yet block.old }
 {
-    let mut tally = nothing();
-    let mut i: u32 = 0;
-    while i < w.rounds {
-        tally = round(block, w, tally);
-        i += 1;
+    let mut tally = Tally::default();
+    for _ in 0..w.rounds {
+        round(block, w, &mut tally);
     }
     tally
 }

@@ -1,11 +1,12 @@
--- A turn leaves what it comes to as it was, and where no steps are left that is the answer so far.
-use Rattle.std.proofs.Common.{arith}
-use Rattle.speed.proofs.Turns.{turned, ended}
+-- A step leaves what all of them come to as it was.
+use Rattle.speed.proofs.Operations.{goes_on, stops, none_left}
 use Rattle.speed.proofs.work.steps.Goals as goal
 
-pub loop-left-preserved : goal.loop-left-preserved
-loop-left-preserved c =
-    (omega arith, turned _ _ _ _ _ _ _ _ c.loop-left-test.true c.step-answer.ensures c.left_after-left.ensures c.loop-left.invariant.1)
+pub loop-preserved : goal.loop-preserved
+loop-preserved c = goes_on _ _ _ _ _ _ _ c.loop-test.true c.step.ensures c.loop.invariant c.in-GoesOn.is
+
+pub returns-in_default : goal.returns-in_default
+returns-in_default c = stops _ _ _ _ _ _ _ c.loop-test.true c.step.ensures c.loop.invariant c.in_default.not-GoesOn
 
 pub returns : goal.returns
-returns c = ended _ _ _ _ c.loop-left-test.false c.loop-left.invariant.1
+returns c = none_left _ _ _ _ c.loop-test.false c.loop.invariant
