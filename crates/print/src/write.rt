@@ -1,7 +1,7 @@
 // Lines written into a lent buffer from a place on, as far as the buffer reaches; each function gives the place behind what it wrote.
-ghost use Rattle.std.specs.Prelude.{◌≡◌, [], ◌∷◌};
+ghost use Rattle.std.specs.Prelude.{◌≡◌};
 ghost use Rattle.print.specs.Text.{decimal};
-ghost use Rattle.print.specs.Writing.{out, written, named, op_field, answer_field, answer_line, refused_line, count_line, key_line};
+ghost use Rattle.print.specs.Writing.{out, written, Puts, named, op_field, answer_field, answer_line, refused_line, count_line, key_line};
 ghost use Rattle.print.specs.Writing.{op_word as word_of_op, answer_word as word_of_answer};
 ghost use Rattle.print.specs.Writing.{plain_making_text, making_text, start_text, steps_text, list_text};
 
@@ -51,16 +51,14 @@ struct Writer<'a> {
 
 impl Writer<'_> {
     fn bytes(&mut self, text: &[u8])
-        ensures same { self.new.buffer.ghost_name ≡ self.old.buffer.ghost_name }
-        ensures puts { out self.new.at self.new.buffer.now ≡ written self.old.buffer.now self.old.at text.now }
+        ensures { Puts self.old self.new text.now }
     {
         self.at = put_bytes(self.buffer, self.at, text);
     }
 
     // The digits before the last one, then the last one.
     fn number(&mut self, n: u32)
-        ensures same { self.new.buffer.ghost_name ≡ self.old.buffer.ghost_name }
-        ensures puts { out self.new.at self.new.buffer.now ≡ written self.old.buffer.now self.old.at (decimal n) }
+        ensures { Puts self.old self.new (decimal n) }
     {
         if n >= 10 {
             self.number(n / 10);
@@ -69,32 +67,28 @@ impl Writer<'_> {
     }
 
     fn named(&mut self, name: &[u8], n: u32)
-        ensures same { self.new.buffer.ghost_name ≡ self.old.buffer.ghost_name }
-        ensures puts { out self.new.at self.new.buffer.now ≡ written self.old.buffer.now self.old.at (named name.now n) }
+        ensures { Puts self.old self.new (named name.now n) }
     {
         self.bytes(name);
         self.number(n);
     }
 
     fn op(&mut self, op: u32)
-        ensures same { self.new.buffer.ghost_name ≡ self.old.buffer.ghost_name }
-        ensures puts { out self.new.at self.new.buffer.now ≡ written self.old.buffer.now self.old.at (op_field op) }
+        ensures { Puts self.old self.new (op_field op) }
     {
         self.bytes(b" op=");
         self.bytes(op_word(op));
     }
 
     fn answer(&mut self, answer: u32)
-        ensures same { self.new.buffer.ghost_name ≡ self.old.buffer.ghost_name }
-        ensures puts { out self.new.at self.new.buffer.now ≡ written self.old.buffer.now self.old.at (answer_field answer) }
+        ensures { Puts self.old self.new (answer_field answer) }
     {
         self.bytes(b" answer=");
         self.bytes(answer_word(answer));
     }
 
     fn making(&mut self, m: Making)
-        ensures same { self.new.buffer.ghost_name ≡ self.old.buffer.ghost_name }
-        ensures puts { out self.new.at self.new.buffer.now ≡ written self.old.buffer.now self.old.at (plain_making_text m) }
+        ensures { Puts self.old self.new (plain_making_text m) }
     {
         self.named(b"processes=", m.processes);
         self.named(b" nodes=", m.nodes);

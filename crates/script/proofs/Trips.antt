@@ -22,6 +22,7 @@ use Rattle.print.specs.declared.lines.StepLine.{StepLine}
 use Rattle.print.specs.declared.lines.AnswerLine.{AnswerLine}
 use Rattle.print.specs.declared.lines.CountLine.{CountLine}
 use Rattle.script.specs.declared.lines.Line.{Line}
+use Rattle.print.proofs.Buffers.{written-sets}
 use Rattle.script.proofs.Grammar.{in_form_read}
 use Rattle.script.proofs.Decimals.{decimal_numeral, decimal_ten}
 
@@ -82,14 +83,6 @@ pub steps_short : (s : StepLine) → s.process ≤ most → s.times ≤ most →
 steps_short s p t = simp length-append (omega (arith, named_short (bytes "step=") s.process p, named_short (bytes " times=") s.times t))
 
 -- ---- what is written and has room stands in the buffer, and nothing else has changed
-
-pub written-sets : (b : List ℕ) (at : ℕ) (t : List ℕ) → at + length t ≤ length b → written b at t ≡ out (at + length t) (sets b at t)
-unfolding written pick
-written-sets b at [] p = ap (λ (i : ℕ). out i b) (let z : at ≡ at + 0 = omega arith in z)
-written-sets b at (x ∷ t) p =
-    rw (lt-ltb at (length b) (omega arith))
-    (written-sets (set b at x) (at + 1) t (rw length-set (omega arith))
-    ∙ rw (add-one at) (ap (λ (i : ℕ). out i (sets (set b at x) (suc at) t)) (let z : suc at + length t ≡ at + suc (length t) = omega arith in z)))
 
 module _ (b e t : List ℕ) (at r : ℕ) (w : out r e ≡ written b at t) (room : at + length t ≤ length b) where
   abbrev placed : out r e ≡ out (at + length t) (sets b at t)
