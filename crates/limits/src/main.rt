@@ -75,7 +75,6 @@ fn put_line(out: &mut [u8], asked: Line) -> usize {
         Line::Start(s) => write::write_start(out, 0, s),
         Line::Steps(s) => write::write_steps(out, 0, s),
         Line::List => write::write_list(out, 0),
-        Line::NotInForm => 0,
     }
 }
 
@@ -111,7 +110,7 @@ fn ask(
     let n = put_line(out, asked);
     show(rt, out, n);
     write_out(rt, b": ");
-    let t = line::later(block, list, row, asked);
+    let t = line::later(block, list, row, Some(asked));
     let said = t.said;
     let session = t.session;
     show_said(rt, out, list, said);

@@ -110,15 +110,15 @@ fn making(block: &mut [u32], row: [Process; 32], m: Making) -> Turn
     }
 }
 
-fn first(block: &mut [u32], row: [Process; 32], line: Line) -> Turn
+fn first(block: &mut [u32], row: [Process; 32], line: Option<Line>) -> Turn
     ensures { did result block.new ≡ first_done block.old row line }
 {
+    let Some(line) = line else {
+        return ended(Refusal::NotInForm, row);
+    };
     match line {
         Line::Making(m) => making(block, row, m),
-        Line::Start(_) => ended(Refusal::NotInForm, row),
-        Line::Steps(_) => ended(Refusal::NotInForm, row),
-        Line::List => ended(Refusal::NotInForm, row),
-        Line::NotInForm => ended(Refusal::NotInForm, row),
+        _ => ended(Refusal::NotInForm, row),
     }
 }
 
@@ -229,9 +229,12 @@ fn list_all(block: &[u32], list: &mut [u32]) -> Said
 }
 
 // A line once the tables are made. A making line is then not in its form.
-pub fn later(block: &mut [u32], list: &mut [u32], row: [Process; 32], line: Line) -> Turn
+pub fn later(block: &mut [u32], list: &mut [u32], row: [Process; 32], line: Option<Line>) -> Turn
     ensures { done result block.new list.new ≡ later_done block.old list.old row line }
 {
+    let Some(line) = line else {
+        return refused(Refusal::NotInForm, row);
+    };
     match line {
         Line::Making(_) => refused(Refusal::NotInForm, row),
         Line::Start(s) => start(block, row, s),
@@ -240,12 +243,11 @@ pub fn later(block: &mut [u32], list: &mut [u32], row: [Process; 32], line: Line
             let said = list_all(block, list);
             saying(said, Stage::Made, row)
         }
-        Line::NotInForm => refused(Refusal::NotInForm, row),
     }
 }
 
 // What a line does, on every input.
-pub fn act(block: &mut [u32], list: &mut [u32], s: Session, line: Line) -> Turn
+pub fn act(block: &mut [u32], list: &mut [u32], s: Session, line: Option<Line>) -> Turn
     ensures { done result block.new list.new ≡ line_done block.old list.old s.stage s.row line }
 {
     let stage = s.stage;
