@@ -1,7 +1,6 @@
 // Document 01, "To run only": what is tried at the limits, a line for each call and its answer behind it, all with 32 processes.
 #![tactic(auto)]
 
-use fresh::Made;
 use held::Held;
 use print::lines::{Making, StartLine, StepLine};
 use print::write;
@@ -64,8 +63,8 @@ impl<R: Print> Trial<'_, R> {
         );
         self.row = row;
         match answer {
-            Made::Done => self.write(b": made\n"),
-            Made::Refused(e) => {
+            Ok(()) => self.write(b": made\n"),
+            Err(e) => {
                 self.write(b": ");
                 let n = write::write_refused(&mut self.out, 0, e.number());
                 self.show(n);
@@ -79,7 +78,6 @@ impl<R: Print> Trial<'_, R> {
             Line::Start(s) => write::write_start(&mut self.out, 0, s),
             Line::Steps(s) => write::write_steps(&mut self.out, 0, s),
             Line::List => write::write_list(&mut self.out, 0),
-            Line::NotInForm => 0,
         }
     }
 
@@ -91,7 +89,7 @@ impl<R: Print> Trial<'_, R> {
         let Turn {
             said,
             session: Session { row, .. },
-        } = line::later(&mut self.block, &mut self.list, self.row, asked);
+        } = line::later(&mut self.block, &mut self.list, self.row, Some(asked));
         self.row = row;
         match said {
             Said::Nothing => self.write(b"accepted\n"),
@@ -161,7 +159,7 @@ fn main(rt: HostRuntime) {
     let mut trial = Trial {
         rt: &rt,
         block: [0; BLOCK_WORDS],
-        row: [process::idle_record(); 32],
+        row: [Process::idle(); 32],
         list: [0; LIST_WORDS],
         out: [0; TEXT_BYTES],
     };

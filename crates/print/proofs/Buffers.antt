@@ -1,15 +1,16 @@
 -- Writing, function by function: bytes one after another, a number's digits, and lines put together of their fields.
-use Prim.Native.Nat.{ℕ, zero, suc, ◌+◌, ◌/◌, ◌%◌, ◌≤◌, ◌<◌}
+use Prim.Native.Nat.{ℕ, zero, suc, ◌+◌, ◌-◌, min, ◌/◌, ◌%◌, ◌≤◌, ◌<◌}
 use mathlib.Core.Path.{◌≡◌, refl, sym, ap, ◌∙◌}
 use mathlib.Core.Bool.{Bool, true, false}
-use mathlib.Core.List.{List, [], ◌∷◌, ◌++◌}
+use mathlib.Core.List.{List, [], ◌∷◌, ◌++◌, append_assoc}
 use native.Mathlib.Omega.{arith}
 use native.Mathlib.Nat.{div-eq_of_lt, mod-eq_of_lt}
 use native.Mathlib.Numerals.{add-one}
 use lib.Dec.{ltb}
-use lib.ListN.{length, get_or, set, drop, drop_of_length-le}
-use lib.Seq.{drop-cons}
-use borrow.Author.Tests.{lt-ltb, le-ltb, ltb-false, ne_eqb}
+use lib.ListN.{length, set, take, drop, drop_of_length-le, length-set, take-append-drop}
+use lib.Seq.{sets, sets-eq, length-take-le}
+use borrow.Rule.Slice.PartMut.{put_mid, mid_len, Post-is, same_len_mid}
+use borrow.Author.Tests.{lt-ltb, le-ltb, ltb-true, ltb-false, ne_eqb}
 use Rattle.tables.specs.Choice.{pick}
 use Rattle.print.specs.Text.{bytes, digits_of, decimal}
 use Rattle.print.specs.Writing.{Out, out, written, named, op_word, op_field, answer_word, answer_field}
@@ -18,26 +19,6 @@ pub written_past : (b : List ℕ) (at : ℕ) (xs : List ℕ) → length b ≤ at
 unfolding written pick
 written_past b at [] p = refl
 written_past b at (x ∷ xs) p = rw (le-ltb at (length b) p)
-
-pub written_byte : (b : List ℕ) (at x : ℕ) → at < length b → out (at + 1) (set b at x) ≡ written b at (x ∷ [])
-unfolding written pick
-written_byte b at x p = rw (lt-ltb at (length b) p)
-
-pub ruleset bytewise = (written_past, written_byte)
-
-module _ (w : Out) (b text : List ℕ) (i j : ℕ) (inv : w ≡ written b i (drop j text)) where
-  pub bytes_again : j < length text → i < length b → w ≡ written (set b i (get_or text j 0)) (i + 1) (drop (j + 1) text)
-  unfolding written pick
-  bytes_again p q = inv ∙ rw (drop-cons text j 0 p, lt-ltb i (length b) q, add-one j)
-
-  pub bytes_stop : length b ≤ i → out i b ≡ w
-  bytes_stop p = written_past b i (drop j text) p ∙ sym inv
-
-  pub bytes_done : length text ≤ j → out i b ≡ w
-  unfolding written
-  bytes_done p = sym (inv ∙ rw (drop_of_length-le text p))
-
-pub ruleset bytes_turns = (bytes_again, bytes_stop, bytes_done)
 
 -- what is written behind what was written is written at once
 pub written-append : (b : List ℕ) (at : ℕ) (xs ys : List ℕ) → written (written b at xs).buffer (written b at xs).at ys ≡ written b at (xs ++ ys)
@@ -51,9 +32,54 @@ written-append b at (x ∷ xs) ys = go (ltb at (length b)) refl (written-append 
     go true e r = r
     go false e r = sym (written_past b at ys (ltb-false at (length b) e))
 
+-- what has room stands in the buffer, and nothing else has changed
+pub written-sets : (b : List ℕ) (at : ℕ) (t : List ℕ) → at + length t ≤ length b → written b at t ≡ out (at + length t) (sets b at t)
+unfolding written pick
+written-sets b at [] p = ap (λ (i : ℕ). out i b) (let z : at ≡ at + 0 = omega arith in z)
+written-sets b at (x ∷ t) p =
+    rw (lt-ltb at (length b) (omega arith))
+    (written-sets (set b at x) (at + 1) t (rw length-set (omega arith))
+    ∙ rw (add-one at) (ap (λ (i : ℕ). out i (sets (set b at x) (suc at) t)) (let z : suc at + length t ≡ at + suc (length t) = omega arith in z)))
+
+sets_mid : (b t : List ℕ) (at : ℕ) → at + length t ≤ length b → sets b at t ≡ put_mid at (at + length t - at) b t
+sets_mid b t at p =
+    sets-eq t b at p ∙ (append_assoc (take at b) t (drop (at + length t) b) ∙ ap (λ (r : List ℕ). take at b ++ (t ++ r)) (sym (Post-is at (at + length t) b (omega arith))))
+
+-- bytes are copied as far as the buffer reaches
+pub written_part : (b t e : List ℕ) (at n : ℕ) → at < length b → n ≡ min (length t) (length b - at) → e ≡ take n t → out (at + n) (put_mid at (at + n - at) b e) ≡ written b at t
+unfolding written
+written_part b t e at n p q r = go (ltb n (length t)) refl
+  where
+    k : length (take n t) ≡ n
+    k = length-take-le n t (omega arith)
+
+    c : List ℕ
+    c = put_mid at (at + n - at) b (take n t)
+
+    front : written b at (take n t) ≡ out (at + n) c
+    front =
+        let h : at + length (take n t) ≤ length b = rw k (omega arith) in
+        written-sets b at (take n t) h ∙ rw (sets_mid b (take n t) at h, k)
+
+    long : length c ≡ length b
+    long = same_len_mid at (at + n - at) b (take n t) (k ∙ sym (let z : at + n - at ≡ n = omega arith in mid_len at (at + n) b (omega arith) ∙ z))
+
+    whole : written b at t ≡ written c (at + n) (drop n t)
+    whole =
+        ap (λ (l : List ℕ). written b at l) (sym (take-append-drop n t))
+        ∙ (sym (written-append b at (take n t) (drop n t)) ∙ ap (λ (o : Out). written o.buffer o.at (drop n t)) front)
+
+    go : (u : Bool) → ltb n (length t) ≡ u → out (at + n) (put_mid at (at + n - at) b e) ≡ written b at t
+    go true f = rw r (written_past c (at + n) (drop n t) (let h : n < length t = ltb-true n (length t) f in omega (arith, long)) ∙ sym whole)
+    go false f = rw (r, whole, drop_of_length-le t (ltb-false n (length t) f))
+
 pub joined : (b c d : List ℕ) (at i r : ℕ) (xs ys : List ℕ) → out r d ≡ written c i ys → out i c ≡ written b at xs → out r d ≡ written b at (xs ++ ys)
 joined b c d at i r xs ys e f =
     e ∙ (ap (λ (o : Out). written o.buffer o.at ys) f ∙ written-append b at xs ys)
+
+-- the buffer is, when it is given back, what it was behind the last of what was written
+pub given_back : (b d x : List ℕ) (at r : ℕ) (t : List ℕ) → out r d ≡ written b at t → x ≡ d → out r x ≡ written b at t
+given_back b d x at r t e f = rw f e
 
 -- the same for the three, four and six parts of a line
 module _ (b : List ℕ) (at : ℕ) (s t u : List ℕ) (b1 b2 b3 : List ℕ) (i1 i2 i3 : ℕ) (e3 : out i3 b3 ≡ written b2 i2 u) (e2 : out i2 b2 ≡ written b1 i1 t)
@@ -99,52 +125,48 @@ decimal_more zero p = absurd (omega arith)
 decimal_more (suc n) p =
     rw (ne_eqb (suc n) 0 (omega arith), ne_eqb (suc n / 10) 0 (omega arith), digits_enough n (suc n / 10) (suc n / 10) (omega arith) (omega arith))
 
--- a number of one digit, and one of more
+-- a number's last digit, behind those before it
 module _ (b d : List ℕ) (at r n : ℕ) where
-  pub number_one : n < 10 → out r d ≡ written b at ((48 + n) ∷ []) → out r d ≡ written b at (decimal n)
-  number_one p e = rw (decimal_one n p) e
+  pub number_one : n < 10 → out r d ≡ written b at ((48 + n % 10) ∷ []) → out r d ≡ written b at (decimal n)
+  number_one p e = rw (decimal_one n p, let z : 48 + n ≡ 48 + n % 10 = ap (λ (k : ℕ). 48 + k) (sym (mod-eq_of_lt p)) in z) e
 
   pub number_more : (c : List ℕ) (i : ℕ) → 10 ≤ n → out i c ≡ written b at (decimal (n / 10)) → out r d ≡ written c i ((48 + n % 10) ∷ []) → out r d ≡ written b at (decimal n)
   number_more c i p e f = rw (decimal_more n p) (joined b c d at i r _ _ f e)
 
-pub ruleset digits = (number_one, number_more)
-
 -- a word by its number
-module _ (b c : List ℕ) (at r : ℕ) where
-  module _ (op : ℕ) where
-    pub op_1 : op ≡ 1 → out r c ≡ written b at (bytes "find") → out r c ≡ written b at (op_word op)
-    unfolding pick
-    op_1 e f = rw e f
+module _ (op : ℕ) where
+  pub op_1 : op ≡ 1 → bytes "find" ≡ op_word op
+  unfolding pick
+  op_1 e = rw e
 
-    pub op_2 : op ≡ 2 → out r c ≡ written b at (bytes "insert") → out r c ≡ written b at (op_word op)
-    unfolding pick
-    op_2 e f = rw e f
+  pub op_2 : op ≡ 2 → bytes "insert" ≡ op_word op
+  unfolding pick
+  op_2 e = rw e
 
-    pub op_3 : op ≡ 3 → out r c ≡ written b at (bytes "delete") → out r c ≡ written b at (op_word op)
-    unfolding pick
-    op_3 e f = rw e f
+  pub op_3 : op ≡ 3 → bytes "delete" ≡ op_word op
+  unfolding pick
+  op_3 e = rw e
 
-  module _ (a : ℕ) where
-    pub answer_0 : a ≡ 0 → out r c ≡ written b at (bytes "no") → out r c ≡ written b at (answer_word a)
-    unfolding pick
-    answer_0 e f = rw e f
+  pub op_else : (op ≡ 1 → ⊥) → (op ≡ 2 → ⊥) → (op ≡ 3 → ⊥) → [] ≡ op_word op
+  unfolding pick
+  op_else p q r = rw (ne_eqb op 1 p, ne_eqb op 2 q, ne_eqb op 3 r)
 
-    pub answer_1 : a ≡ 1 → out r c ≡ written b at (bytes "yes") → out r c ≡ written b at (answer_word a)
-    unfolding pick
-    answer_1 e f = rw e f
+module _ (a : ℕ) where
+  pub answer_0 : a ≡ 0 → bytes "no" ≡ answer_word a
+  unfolding pick
+  answer_0 e = rw e
 
-    pub answer_2 : a ≡ 2 → out r c ≡ written b at (bytes "full") → out r c ≡ written b at (answer_word a)
-    unfolding pick
-    answer_2 e f = rw e f
+  pub answer_1 : a ≡ 1 → bytes "yes" ≡ answer_word a
+  unfolding pick
+  answer_1 e = rw e
 
-module _ (b : List ℕ) (at : ℕ) where
-  pub op_else : (op : ℕ) → (op ≡ 1 → ⊥) → (op ≡ 2 → ⊥) → (op ≡ 3 → ⊥) → out at b ≡ written b at (op_word op)
-  unfolding pick written
-  op_else op p q r = rw (ne_eqb op 1 p, ne_eqb op 2 q, ne_eqb op 3 r)
+  pub answer_2 : a ≡ 2 → bytes "full" ≡ answer_word a
+  unfolding pick
+  answer_2 e = rw e
 
-  pub answer_else : (a : ℕ) → (a ≡ 0 → ⊥) → (a ≡ 1 → ⊥) → (a ≡ 2 → ⊥) → out at b ≡ written b at (answer_word a)
-  unfolding pick written
-  answer_else a p q r = rw (ne_eqb a 0 p, ne_eqb a 1 q, ne_eqb a 2 r)
+  pub answer_else : (a ≡ 0 → ⊥) → (a ≡ 1 → ⊥) → (a ≡ 2 → ⊥) → [] ≡ answer_word a
+  unfolding pick
+  answer_else p q r = rw (ne_eqb a 0 p, ne_eqb a 1 q, ne_eqb a 2 r)
 
 pub ruleset words = (op_1, op_2, op_3, op_else, answer_0, answer_1, answer_2, answer_else)
 

@@ -1,5 +1,5 @@
 -- What is written: the lines that the bench prints and those of its script, as bytes, and a buffer into which bytes were written.
-use Rattle.std.specs.Prelude.{ℕ, ◌+◌, List, [], ◌∷◌, ◌++◌, ltb, eqb, length, set}
+use Rattle.std.specs.Prelude.{ℕ, ◌≡◌, ◌+◌, List, [], ◌∷◌, ◌++◌, ltb, eqb, length, set}
 use Rattle.tables.specs.Choice.{pick}
 use Rattle.print.specs.Text.{bytes, newline, decimal}
 use Rattle.print.specs.declared.lines.Making.{Making}
@@ -7,6 +7,7 @@ use Rattle.print.specs.declared.lines.StartLine.{StartLine}
 use Rattle.print.specs.declared.lines.StepLine.{StepLine}
 use Rattle.print.specs.declared.lines.AnswerLine.{AnswerLine}
 use Rattle.print.specs.declared.lines.CountLine.{CountLine}
+use Rattle.print.specs.declared.write.Writer.{Writer}
 
 -- a field: its name and its number
 unfoldable pub named : List ℕ → ℕ → List ℕ
@@ -77,3 +78,8 @@ out at b = record { at = at; buffer = b }
 unfoldable pub written : List ℕ → ℕ → List ℕ → Out
 written b at [] = out at b
 written b at (x ∷ xs) = pick (ltb at (length b)) (written (set b at x) (at + 1) xs) (out at b)
+
+-- a writer, with bytes written into the buffer that it holds
+pub record Puts (w v : Writer) (text : List ℕ) : Type 0 where
+  pub same : v.buffer.ghost_name ≡ w.buffer.ghost_name
+  pub puts : out v.at v.buffer.now ≡ written w.buffer.now w.at text

@@ -2,19 +2,20 @@
 use mathlib.Core.Path.{◌≡◌, refl}
 use mathlib.Core.List.{[], ◌∷◌, ◌++◌}
 use lib.ListN.{replicate}
+use Rattle.std.specs.Prelude.{Some, None}
 use Rattle.tables.specs.Choice.{pick, both}
 use Rattle.print.specs.Text.{bytes, front, behind, value_from, digits_of, decimal}
-use Rattle.script.specs.Reading.{expect, literal, ended, number_in, op_of, op_in, field, op_behind, line_of}
+use Rattle.script.specs.Reading.{expect, ended, number_in, op_of, op_in, field, op_behind, line_of}
 use Rattle.print.specs.Writing.{named, op_field, answer_field, answer_line, refused_line, count_line, key_line, out, written}
 use Rattle.script.specs.declared.lines.Line.TheVariants as Line
 
 -- the lines of the example
-pub example_script : (line_of (bytes "k=2 processes=1 nodes=16 records=8") ≡ Line.Making (record { k = 2; processes = 1; nodes = 16; records = 8 }))
-    × ((line_of (bytes "start=1 op=insert key=3") ≡ Line.Start (record { process = 1; op = 2; key = 3 }))
-    × ((line_of (bytes "start=1 op=find key=4") ≡ Line.Start (record { process = 1; op = 1; key = 4 }))
-    × ((line_of (bytes "start=1 op=delete key=3") ≡ Line.Start (record { process = 1; op = 3; key = 3 }))
-    × ((line_of (bytes "step=1 times=15") ≡ Line.Steps (record { process = 1; times = 15 })) × (line_of (bytes "list=all") ≡ Line.List)))))
-unfolding line_of pick both front behind value_from expect literal ended number_in op_of op_in field op_behind
+pub example_script : (line_of (bytes "k=2 processes=1 nodes=16 records=8") ≡ Some (Line.Making (record { k = 2; processes = 1; nodes = 16; records = 8 })))
+    × ((line_of (bytes "start=1 op=insert key=3") ≡ Some (Line.Start (record { process = 1; op = 2; key = 3 })))
+    × ((line_of (bytes "start=1 op=find key=4") ≡ Some (Line.Start (record { process = 1; op = 1; key = 4 })))
+    × ((line_of (bytes "start=1 op=delete key=3") ≡ Some (Line.Start (record { process = 1; op = 3; key = 3 })))
+    × ((line_of (bytes "step=1 times=15") ≡ Some (Line.Steps (record { process = 1; times = 15 }))) × (line_of (bytes "list=all") ≡ Some Line.List)))))
+unfolding line_of pick both front behind value_from expect ended number_in op_of op_in field op_behind
 example_script = (refl, (refl, (refl, (refl, (refl, refl)))))
 
 -- what it prints
@@ -27,11 +28,11 @@ unfolding pick named op_field answer_field digits_of decimal
 example_printed = (refl, (refl, (refl, (refl, (refl, refl)))))
 
 -- "An absent k field is k=0", which may be written too; leading zeros are digits; an unknown op is passed on as 0; 4,294,967,295 fits
-pub read_too : (line_of (bytes "processes=1 nodes=16 records=8") ≡ Line.Making (record { k = 0; processes = 1; nodes = 16; records = 8 }))
-    × ((line_of (bytes "k=0 processes=1 nodes=16 records=8") ≡ Line.Making (record { k = 0; processes = 1; nodes = 16; records = 8 }))
-    × ((line_of (bytes "step=0000000000001 times=4294967295") ≡ Line.Steps (record { process = 1; times = 4294967295 }))
-    × (line_of (bytes "start=1 op=Find key=4294967295") ≡ Line.Start (record { process = 1; op = 0; key = 4294967295 }))))
-unfolding line_of pick both front behind value_from expect literal ended number_in op_of op_in field op_behind
+pub read_too : (line_of (bytes "processes=1 nodes=16 records=8") ≡ Some (Line.Making (record { k = 0; processes = 1; nodes = 16; records = 8 })))
+    × ((line_of (bytes "k=0 processes=1 nodes=16 records=8") ≡ Some (Line.Making (record { k = 0; processes = 1; nodes = 16; records = 8 })))
+    × ((line_of (bytes "step=0000000000001 times=4294967295") ≡ Some (Line.Steps (record { process = 1; times = 4294967295 })))
+    × (line_of (bytes "start=1 op=Find key=4294967295") ≡ Some (Line.Start (record { process = 1; op = 0; key = 4294967295 })))))
+unfolding line_of pick both front behind value_from expect ended number_in op_of op_in field op_behind
 read_too = (refl, (refl, (refl, refl)))
 
 pub greatest_key : key_line 4294967295 ≡ bytes "key=4294967295\n"
@@ -39,24 +40,24 @@ unfolding pick named digits_of decimal
 greatest_key = refl
 
 -- not in their form: the empty line; one space too many, before, between, after; a tab; a newline; a number of 33 bits, none, or with a sign; a field too few, too many, or out of order
-pub not_forms : (line_of [] ≡ Line.NotInForm)
-    × ((line_of (bytes " list=all") ≡ Line.NotInForm)
-    × ((line_of (bytes "step=1  times=8") ≡ Line.NotInForm)
-    × ((line_of (bytes "list=all ") ≡ Line.NotInForm)
-    × ((line_of (bytes "step=1\ttimes=8") ≡ Line.NotInForm)
-    × ((line_of (bytes "step=1 times=8\n") ≡ Line.NotInForm)
-    × ((line_of (bytes "step=1 times=4294967296") ≡ Line.NotInForm)
-    × ((line_of (bytes "step=1 times=") ≡ Line.NotInForm)
-    × ((line_of (bytes "step=1 times=+8") ≡ Line.NotInForm)
-    × ((line_of (bytes "k=2 processes=1 nodes=16") ≡ Line.NotInForm)
-    × ((line_of (bytes "step=1 times=8 key=3") ≡ Line.NotInForm)
-    × ((line_of (bytes "start=1 key=3 op=find") ≡ Line.NotInForm) × (line_of (bytes "start=1 op= key=3") ≡ Line.NotInForm))))))))))))
-unfolding line_of pick both front behind value_from expect literal ended number_in op_of op_in field op_behind
+pub not_forms : (line_of [] ≡ None)
+    × ((line_of (bytes " list=all") ≡ None)
+    × ((line_of (bytes "step=1  times=8") ≡ None)
+    × ((line_of (bytes "list=all ") ≡ None)
+    × ((line_of (bytes "step=1\ttimes=8") ≡ None)
+    × ((line_of (bytes "step=1 times=8\n") ≡ None)
+    × ((line_of (bytes "step=1 times=4294967296") ≡ None)
+    × ((line_of (bytes "step=1 times=") ≡ None)
+    × ((line_of (bytes "step=1 times=+8") ≡ None)
+    × ((line_of (bytes "k=2 processes=1 nodes=16") ≡ None)
+    × ((line_of (bytes "step=1 times=8 key=3") ≡ None)
+    × ((line_of (bytes "start=1 key=3 op=find") ≡ None) × (line_of (bytes "start=1 op= key=3") ≡ None))))))))))))
+unfolding line_of pick both front behind value_from expect ended number_in op_of op_in field op_behind
 not_forms = (refl, (refl, (refl, (refl, (refl, (refl, (refl, (refl, (refl, (refl, (refl, (refl, refl))))))))))))
 
 -- as many zeros as make a line of 4,096 bytes are read, and one more is too many
-pub longest_line : (line_of (bytes "step=" ++ replicate 4083 48 ++ bytes "1 times=8") ≡ Line.NotInForm) × (line_of (bytes "step=" ++ replicate 4082 48 ++ bytes "1 times=8") ≡ Line.Steps (record { process = 1; times = 8 }))
-unfolding line_of pick both front behind value_from expect literal ended number_in op_of op_in field op_behind
+pub longest_line : (line_of (bytes "step=" ++ replicate 4083 48 ++ bytes "1 times=8") ≡ None) × (line_of (bytes "step=" ++ replicate 4082 48 ++ bytes "1 times=8") ≡ Some (Line.Steps (record { process = 1; times = 8 })))
+unfolding line_of pick both front behind value_from expect ended number_in op_of op_in field op_behind
 longest_line = (refl, refl)
 
 -- a line is written as far as the buffer reaches

@@ -1,12 +1,15 @@
 -- Laws of runs of bytes: a front by its length, what lies behind it, and the value of digits, which only grows.
-use Prim.Native.Nat.{ℕ, ◌+◌, ◌-◌, ◌*◌, ◌≤◌, ◌<◌}
-use mathlib.Core.Path.{◌≡◌, refl, ap}
+use Prim.Native.Nat.{ℕ, ◌+◌, ◌-◌, ◌*◌, ◌≤◌}
+use mathlib.Core.Path.{◌≡◌, refl, ap, ◌∙◌}
 use mathlib.Core.Bool.{Bool, true, false}
 use mathlib.Core.List.{List, [], ◌∷◌, ◌++◌}
 use native.Mathlib.Omega.{arith}
 use native.Mathlib.Nat.{le_trans}
-use lib.ListN.{length, take, drop, length-drop, length-take, take-append-drop}
-use lib.Seq.{drop-drop}
+use lib.Dec.{ltb}
+use borrow.Author.Tests.{ltb-false}
+use Rattle.std.proofs.Common.{Option, Some, None, unwrap_or, cond, not, position}
+use Rattle.std.specs.List.{position_or_len}
+use lib.ListN.{length, take, drop, length-take, take-append-drop}
 use Rattle.tables.specs.Choice.{pick}
 use Rattle.print.specs.Text.{front, behind, value_from}
 
@@ -36,22 +39,23 @@ module _ (test : ℕ → Bool) where
   pub front_short : (l : List ℕ) → length (front test l) ≤ length l
   front_short l = omega (arith, ap length (take-front l), length-take (length (front test l)) l)
 
-  -- the same at a place of a line, where the run ends at e
-  module _ (line : List ℕ) (at e : ℕ) (p : e ≡ at + length (front test (drop at line))) where
-    pub run_behind : drop e line ≡ behind test (drop at line)
-    run_behind = rw (p, ← drop-drop (length (front test (drop at line))) at line) (drop-front (drop at line))
+-- where a front ends, as the library's search for the first byte that ends it says
+module _ (test stop : ℕ → Bool) (same : (b : ℕ) → not (stop b) ≡ test b) where
+  front_long : (l : List ℕ) → position_or_len stop l ≡ length (front test l)
+  unfolding front pick
+  front_long [] = refl
+  front_long (x ∷ xs) = rw (same x) (go (test x) (front_long xs))
+    where
+      go : (t : Bool) → position_or_len stop xs ≡ length (front test xs) → cond t (1 + position_or_len stop xs) 0 ≡ length (pick t (x ∷ front test xs) [])
+      go true e = rw e (omega arith)
+      go false e = refl
 
-    pub run_front : take (e - at) (drop at line) ≡ front test (drop at line)
-    run_front = rw (let z : e - at ≡ length (front test (drop at line)) = omega arith in z) (take-front (drop at line))
-
-    pub run_some : (e ≡ at → ⊥) → 0 < length (front test (drop at line))
-    run_some q = omega arith
-
-    pub run_none : e ≡ at → length (front test (drop at line)) ≡ 0
-    run_none q = omega arith
-
-    pub run_within : (e ≡ at → ⊥) → e ≤ length line
-    run_within q = omega (arith, front_short (drop at line), length-drop at line)
+  pub run_end : (l : List ℕ) (o : Option ℕ) (e : ℕ) → o ≡ position stop l → e ≡ unwrap_or o (length l) → e ≡ length (front test l)
+  run_end l o e p q = q ∙ rw (p, front_long l) (go (ltb (length (front test l)) (length l)) refl)
+    where
+      go : (t : Bool) → ltb (length (front test l)) (length l) ≡ t → unwrap_or (cond t (Some (length (front test l))) None) (length l) ≡ length (front test l)
+      go true f = refl
+      go false f = omega (arith, front_short test l, ltb-false (length (front test l)) (length l) f)
 
 -- the value of more digits is no less
 pub value_grows : (v : ℕ) (ds : List ℕ) → v ≤ value_from v ds

@@ -9,6 +9,7 @@ use lib.Dec.{ltb, lit<, lit≤}
 use lib.ListN.{length, take, drop, set, length-append, length-set}
 use lib.Seq.{sets, sets-eq, take_at, drop_at, length-take-le}
 use borrow.Author.Tests.{lt-ltb, ltb-true}
+use Rattle.std.specs.Prelude.{Option, Some}
 use Rattle.tables.specs.Choice.{pick}
 use Rattle.print.specs.Text.{bytes, decimal}
 use Rattle.script.specs.Reading.{most, op_of, expect, ended, longest, line_of}
@@ -21,6 +22,7 @@ use Rattle.print.specs.declared.lines.StepLine.{StepLine}
 use Rattle.print.specs.declared.lines.AnswerLine.{AnswerLine}
 use Rattle.print.specs.declared.lines.CountLine.{CountLine}
 use Rattle.script.specs.declared.lines.Line.{Line}
+use Rattle.print.proofs.Buffers.{written-sets}
 use Rattle.script.proofs.Grammar.{in_form_read}
 use Rattle.script.proofs.Decimals.{decimal_numeral, decimal_ten}
 
@@ -82,14 +84,6 @@ steps_short s p t = simp length-append (omega (arith, named_short (bytes "step="
 
 -- ---- what is written and has room stands in the buffer, and nothing else has changed
 
-pub written-sets : (b : List ℕ) (at : ℕ) (t : List ℕ) → at + length t ≤ length b → written b at t ≡ out (at + length t) (sets b at t)
-unfolding written pick
-written-sets b at [] p = ap (λ (i : ℕ). out i b) (let z : at ≡ at + 0 = omega arith in z)
-written-sets b at (x ∷ t) p =
-    rw (lt-ltb at (length b) (omega arith))
-    (written-sets (set b at x) (at + 1) t (rw length-set (omega arith))
-    ∙ rw (add-one at) (ap (λ (i : ℕ). out i (sets (set b at x) (suc at) t)) (let z : suc at + length t ≡ at + suc (length t) = omega arith in z)))
-
 module _ (b e t : List ℕ) (at r : ℕ) (w : out r e ≡ written b at t) (room : at + length t ≤ length b) where
   abbrev placed : out r e ≡ out (at + length t) (sets b at t)
   placed = w ∙ written-sets b at t room
@@ -136,7 +130,7 @@ steps_flat a b = simp append_assoc
 not_long : (l : List ℕ) → length l ≤ 128 → length l ≤ longest
 not_long l p = omega arith
 
-pub making_back : (m : Making) → m.k ≤ most → m.processes ≤ most → m.nodes ≤ most → m.records ≤ most → line_of (making_text m) ≡ Line.Making m
+pub making_back : (m : Making) → m.k ≤ most → m.processes ≤ most → m.nodes ≤ most → m.records ≤ most → line_of (making_text m) ≡ Some (Line.Making m)
 unfolding named
 making_back m k p n r =
     in_form_read (making_text m) (Line.Making m) (not_long (making_text m) (making_short m k p n r))
@@ -144,14 +138,14 @@ making_back m k p n r =
     (decimal_numeral m.processes p) (decimal_numeral m.nodes n) (decimal_numeral m.records r) (making_flat (decimal m.k) (decimal m.processes) (decimal m.nodes) (decimal m.records)))
 
 -- "An absent k field is k=0"
-pub plain_making_back : (m : Making) → m.k ≡ 0 → m.processes ≤ most → m.nodes ≤ most → m.records ≤ most → line_of (plain_making_text m) ≡ Line.Making m
+pub plain_making_back : (m : Making) → m.k ≡ 0 → m.processes ≤ most → m.nodes ≤ most → m.records ≤ most → line_of (plain_making_text m) ≡ Some (Line.Making m)
 unfolding named
 plain_making_back m e p n r =
     in_form_read (plain_making_text m) (Line.Making (record { k = 0; processes = m.processes; nodes = m.nodes; records = m.records }))
     (let z : length (plain_making_text m) ≤ longest = omega (arith, plain_making_short m p n r) in z)
     (making_without_k m.processes m.nodes m.records (decimal m.processes) (decimal m.nodes) (decimal m.records) (decimal_numeral m.processes p)
     (decimal_numeral m.nodes n) (decimal_numeral m.records r) (plain_flat (decimal m.processes) (decimal m.nodes) (decimal m.records)))
-    ∙ ap (λ (i : ℕ). Line.Making (record { k = i; processes = m.processes; nodes = m.nodes; records = m.records })) (sym e)
+    ∙ ap (λ (i : ℕ). Some (Line.Making (record { k = i; processes = m.processes; nodes = m.nodes; records = m.records }))) (sym e)
 
 -- the three words are words, and stand for their operations
 find_word : Word (bytes "find")
@@ -174,25 +168,25 @@ op_word_good (suc (suc zero)) p q = (insert_word, refl)
 op_word_good (suc (suc (suc zero))) p q = (delete_word, refl)
 op_word_good (suc (suc (suc (suc n)))) p q = absurd (omega arith)
 
-pub start_back : (s : StartLine) → s.process ≤ most → 1 ≤ s.op → s.op ≤ 3 → s.key ≤ most → line_of (start_text s) ≡ Line.Start s
+pub start_back : (s : StartLine) → s.process ≤ most → 1 ≤ s.op → s.op ≤ 3 → s.key ≤ most → line_of (start_text s) ≡ Some (Line.Start s)
 unfolding named op_field
 start_back s p o o' k =
     let w = op_word_good s.op o o' in
     in_form_read (start_text s) (Line.Start (record { process = s.process; op = op_of (op_word s.op); key = s.key })) (not_long (start_text s) (start_short s p k))
     (start s.process s.key (decimal s.process) (op_word s.op) (decimal s.key) (decimal_numeral s.process p) w.0 (decimal_numeral s.key k)
     (start_flat (decimal s.process) (op_word s.op) (decimal s.key)))
-    ∙ ap (λ (i : ℕ). Line.Start (record { process = s.process; op = i; key = s.key })) w.1
+    ∙ ap (λ (i : ℕ). Some (Line.Start (record { process = s.process; op = i; key = s.key }))) w.1
 
-pub steps_back : (s : StepLine) → s.process ≤ most → s.times ≤ most → line_of (steps_text s) ≡ Line.Steps s
+pub steps_back : (s : StepLine) → s.process ≤ most → s.times ≤ most → line_of (steps_text s) ≡ Some (Line.Steps s)
 unfolding named
 steps_back s p t =
     in_form_read (steps_text s) (Line.Steps s) (not_long (steps_text s) (steps_short s p t))
     (steps s.process s.times (decimal s.process) (decimal s.times) (decimal_numeral s.process p) (decimal_numeral s.times t)
     (steps_flat (decimal s.process) (decimal s.times)))
 
-pub list_back : line_of list_text ≡ Line.List
+pub list_back : line_of list_text ≡ Some Line.List
 list_back = in_form_read list_text Line.List (lit≤ tt) (list refl)
 
 -- so a line that was written where there was room for it is read from the buffer as what it asks for
-pub written_back : (b e t : List ℕ) (at r : ℕ) (x : Line) → out r e ≡ written b at t → at + length t ≤ length b → line_of t ≡ x → line_of (take (r - at) (drop at e)) ≡ x
+pub written_back : (b e t : List ℕ) (at r : ℕ) (x : Option Line) → out r e ≡ written b at t → at + length t ≤ length b → line_of t ≡ x → line_of (take (r - at) (drop at e)) ≡ x
 written_back b e t at r x w room q = rw (written_there b e t at r w room) q

@@ -7,5 +7,4 @@ pub enum Line {
     Start(StartLine),
     Steps(StepLine),
     List,
-    NotInForm,
 }

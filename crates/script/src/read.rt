@@ -1,13 +1,10 @@
-// A line of the script, read: literals, numbers and words one behind another, up to the line's end.
-ghost use Rattle.std.specs.Prelude.{◌≡◌, ◌+◌, ◌-◌, length, drop};
-ghost use Rattle.print.specs.Text.{front, is_digit, in_word};
-ghost use Rattle.script.specs.Reading.{expect, is_word, number_in, op_in, op_behind, making_with_k, making_from, start_of, steps_of, list_of, line_of};
-ghost use Rattle.script.specs.Reading.{literal as literal_of};
+// A line of the script, read from its front: each part gives what it holds and what is left of the line behind it, and `None` where the line is not in its form.
+ghost use Rattle.std.specs.Prelude.{◌≡◌, option_copied};
+ghost use Rattle.print.specs.Text.{front, behind, is_digit, in_word};
+ghost use Rattle.script.specs.Reading.{expect, number_in, op_in, op_behind, making_with_k, making_from, start_of, steps_of, list_of, line_of};
 ghost use Rattle.script.specs.Reading.{field as field_of};
-ghost use Rattle.script.specs.Reading.{ended as ended_of};
-ghost use Rattle.script.specs.Reading.{first_of as first_of_lines};
 ghost use Rattle.script.specs.Reading.{op_of as op_of_word};
-ghost use Rattle.script.specs.Position.{left_at, found_at, belongs_to, value_in};
+ghost use Rattle.script.specs.Position.{found_in, value_in};
 
 use crate::lines::Line;
 use print::lines::{Making, StartLine, StepLine};
@@ -15,324 +12,155 @@ use print::lines::{Making, StartLine, StepLine};
 // A longer line is not in its form.
 pub const LONGEST: usize = 4096;
 
+fn literal<'a>(line: &'a [u8], word: &[u8]) -> Option<&'a [u8]>
+    ensures { option_copied result ≡ expect word.now line.now }
+{
+    line.strip_prefix(word)
+}
+
 // "Numbers are decimal, of 32 bits."
-const MOST: u64 = 4294967295;
-
-// Where the part of the line that is still to be read begins; or the line is not in its form.
-#[derive(Clone, Copy)]
-enum Next {
-    At(usize),
-    Bad,
-}
-
-// A number of the line, or an operation, and where the rest begins.
-#[derive(Clone, Copy)]
-struct Found {
-    value: u32,
-    next: Next,
-}
-
-// The two kinds of runs: a number's digits, and the bytes of an op word.
-#[derive(Clone, Copy)]
-enum Kind {
-    Digit,
-    Word,
-}
-
-#[derive(Clone, Copy)]
-enum Value {
-    Fits(u32),
-    TooBig,
-}
-
-// What is not there leaves the whole line out of its form.
-fn missing() -> Found
-    ensures { result ≡ record { value = 0; next = Next.Bad } }
-{
-    Found {
-        value: 0,
-        next: Next::Bad,
-    }
-}
-
-// Each byte of a literal in turn.
-fn literal_at(line: &[u8], at: usize, word: &[u8]) -> Next
-    ensures { left_at line.now result ≡ expect word.now (drop at line.now) }
-{
-    let mut i = at;
-    let mut j: usize = 0;
-    while j < word.len() {
-        if line.len() <= i {
-            return Next::Bad;
-        }
-        if line[i] != word[j] {
-            return Next::Bad;
-        }
-        i += 1;
-        j += 1;
-    }
-    Next::At(i)
-}
-
-fn literal(line: &[u8], next: Next, word: &[u8]) -> Next
-    ensures { left_at line.now result ≡ literal_of word.now (left_at line.now next) }
-{
-    match next {
-        Next::At(at) => literal_at(line, at, word),
-        Next::Bad => Next::Bad,
-    }
-}
-
-fn ended(line: &[u8], next: Next) -> bool
-    ensures { result ≡ ended_of (left_at line.now next) }
-{
-    match next {
-        Next::At(at) => line.len() <= at,
-        Next::Bad => false,
-    }
-}
-
-fn is_digit(byte: u8) -> bool
-    ensures { result ≡ is_digit byte }
-{
-    tables::choice::within(48, byte as u64, 57)
-}
-
-fn in_word(byte: u8) -> bool
-    ensures { result ≡ in_word byte }
-{
-    if byte == b' ' {
-        false
-    } else if byte == b'\n' {
-        false
-    } else {
-        true
-    }
-}
-
-fn belongs(kind: Kind, byte: u8) -> bool
-    ensures { result ≡ belongs_to kind byte }
-{
-    match kind {
-        Kind::Digit => is_digit(byte),
-        Kind::Word => in_word(byte),
-    }
-}
-
-// Where the longest run of bytes of a kind ends.
-fn run_end(line: &[u8], at: usize, kind: Kind) -> usize
-    ensures { result ≡ at + length (front (belongs_to kind) (drop at line.now)) }
-{
-    let mut i = at;
-    while i < line.len() {
-        let byte = line[i];
-        if belongs(kind, byte) {
-            i += 1;
-        } else {
-            return i;
-        }
-    }
-    i
-}
-
-fn digit_value(byte: u8) -> u8
-    ensures { result ≡ byte - 48 }
-{
-    if byte < b'0' { 0 } else { byte - b'0' }
-}
-
-// The value of a row of digits, from the left. A value only grows with more digits, so the first that is too big decides.
-fn value_of(digits: &[u8]) -> Value
+fn value_of(digits: &[u8]) -> Option<u32>
     ensures { result ≡ value_in digits.now }
 {
-    let mut v: u64 = 0;
-    let mut i: usize = 0;
-    while i < digits.len() {
-        let byte = digits[i];
-        let more = 10 * v + (digit_value(byte) as u64);
-        if MOST < more {
-            return Value::TooBig;
-        }
-        v = more;
-        i += 1;
+    let mut value: u32 = 0;
+    for &digit in digits {
+        value = value
+            .checked_mul(10)?
+            .checked_add(u32::from(digit.saturating_sub(b'0')))?;
     }
-    Value::Fits(v as u32)
+    Some(value)
 }
 
-fn number_at(line: &[u8], at: usize) -> Found
-    ensures { found_at line.now result ≡ number_in (drop at line.now) }
+// The digits that a line begins with, and what is behind them.
+fn split_digits(line: &[u8]) -> (&[u8], &[u8])
+    ensures digits { result.0.now ≡ front is_digit line.now }
+    ensures rest { result.1.now ≡ behind is_digit line.now }
 {
-    let end = run_end(line, at, Kind::Digit);
-    if end == at {
-        return missing();
-    }
-    let value = value_of(&line[at..end]);
-    match value {
-        Value::Fits(v) => Found {
-            value: v,
-            next: Next::At(end),
-        },
-        Value::TooBig => missing(),
-    }
+    let end = line.iter().position(|b| !b.is_ascii_digit());
+    line.split_at(end.unwrap_or(line.len()))
 }
 
-fn is_word(bytes: &[u8], word: &[u8]) -> bool
-    ensures { result ≡ is_word word.now bytes.now }
+fn number(line: &[u8]) -> Option<(u32, &[u8])>
+    ensures { found_in result ≡ number_in line.now }
 {
-    let next = literal_at(bytes, 0, word);
-    ended(bytes, next)
+    let (digits, rest) = split_digits(line);
+    if digits.is_empty() {
+        return None;
+    }
+    Some((value_of(digits)?, rest))
+}
+
+// The word that a line begins with, and what is behind it.
+fn split_word(line: &[u8]) -> (&[u8], &[u8])
+    ensures word { result.0.now ≡ front in_word line.now }
+    ensures rest { result.1.now ≡ behind in_word line.now }
+{
+    let end = line.iter().position(|&b| b == b' ' || b == b'\n');
+    line.split_at(end.unwrap_or(line.len()))
 }
 
 // "an unknown op is 5", after 4: it is passed on as an operation that the call refuses.
 fn op_of(word: &[u8]) -> u32
     ensures { result ≡ op_of_word word.now }
 {
-    if is_word(word, b"find") {
+    if word == b"find".as_slice() {
         1
-    } else if is_word(word, b"insert") {
+    } else if word == b"insert".as_slice() {
         2
-    } else if is_word(word, b"delete") {
+    } else if word == b"delete".as_slice() {
         3
     } else {
         0
     }
 }
 
-fn op_at(line: &[u8], at: usize) -> Found
-    ensures { found_at line.now result ≡ op_in (drop at line.now) }
+fn op(line: &[u8]) -> Option<(u32, &[u8])>
+    ensures { found_in result ≡ op_in line.now }
 {
-    let end = run_end(line, at, Kind::Word);
-    if end == at {
-        return missing();
+    let (word, rest) = split_word(line);
+    if word.is_empty() {
+        return None;
     }
-    let op = op_of(&line[at..end]);
-    Found {
-        value: op,
-        next: Next::At(end),
-    }
+    Some((op_of(word), rest))
 }
 
-fn op_behind(line: &[u8], next: Next, name: &[u8]) -> Found
-    ensures { found_at line.now result ≡ op_behind name.now (left_at line.now next) }
+#[tactic(auto, unfolding(crate::specs::Reading::field))]
+fn field<'a>(line: &'a [u8], name: &[u8]) -> Option<(u32, &'a [u8])>
+    ensures { found_in result ≡ field_of name.now line.now }
 {
-    let value = literal(line, next, name);
-    match value {
-        Next::At(at) => op_at(line, at),
-        Next::Bad => missing(),
-    }
+    number(literal(line, name)?)
 }
 
-fn field(line: &[u8], next: Next, name: &[u8]) -> Found
-    ensures { found_at line.now result ≡ field_of name.now (left_at line.now next) }
+#[tactic(auto, unfolding(crate::specs::Reading::op_behind))]
+fn op_behind<'a>(line: &'a [u8], name: &[u8]) -> Option<(u32, &'a [u8])>
+    ensures { found_in result ≡ op_behind name.now line.now }
 {
-    let value = literal(line, next, name);
-    match value {
-        Next::At(at) => number_at(line, at),
-        Next::Bad => missing(),
-    }
+    op(literal(line, name)?)
 }
 
-// "An absent k field is k=0": what follows the k field, with the k that was read.
-fn making_from(line: &[u8], k: u32, next: Next) -> Line
-    ensures { result ≡ making_from k (left_at line.now next) }
+// What follows the k field, with the k that was read.
+#[tactic(auto, using(crate::proofs::Turns::at_end_is))]
+fn making_from(k: u32, line: &[u8]) -> Option<Line>
+    ensures { result ≡ making_from k line.now }
 {
-    let p = field(line, next, b"processes=");
-    let behind_p = p.next;
-    let n = field(line, behind_p, b" nodes=");
-    let behind_n = n.next;
-    let r = field(line, behind_n, b" records=");
-    let behind_r = r.next;
-    if ended(line, behind_r) {
-        Line::Making(Making {
-            k,
-            processes: p.value,
-            nodes: n.value,
-            records: r.value,
-        })
-    } else {
-        Line::NotInForm
-    }
+    let (processes, line) = field(line, b"processes=")?;
+    let (nodes, line) = field(line, b" nodes=")?;
+    let (records, line) = field(line, b" records=")?;
+    let making = Making {
+        k,
+        processes,
+        nodes,
+        records,
+    };
+    line.is_empty().then_some(Line::Making(making))
 }
 
-fn making_with_k(line: &[u8]) -> Line
+fn making_with_k(line: &[u8]) -> Option<Line>
     ensures { result ≡ making_with_k line.now }
 {
-    let k = field(line, Next::At(0), b"k=");
-    let behind_k = k.next;
-    let next = literal(line, behind_k, b" ");
-    making_from(line, k.value, next)
+    let (k, line) = field(line, b"k=")?;
+    making_from(k, literal(line, b" ")?)
 }
 
-fn start_of(line: &[u8]) -> Line
+#[tactic(auto, using(crate::proofs::Turns::at_end_is))]
+fn start_of(line: &[u8]) -> Option<Line>
     ensures { result ≡ start_of line.now }
 {
-    let p = field(line, Next::At(0), b"start=");
-    let behind_p = p.next;
-    let w = op_behind(line, behind_p, b" op=");
-    let behind_w = w.next;
-    let x = field(line, behind_w, b" key=");
-    let behind_x = x.next;
-    if ended(line, behind_x) {
-        Line::Start(StartLine {
-            process: p.value,
-            op: w.value,
-            key: x.value,
-        })
-    } else {
-        Line::NotInForm
-    }
+    let (process, line) = field(line, b"start=")?;
+    let (op, line) = op_behind(line, b" op=")?;
+    let (key, line) = field(line, b" key=")?;
+    let start = StartLine { process, op, key };
+    line.is_empty().then_some(Line::Start(start))
 }
 
-fn steps_of(line: &[u8]) -> Line
+#[tactic(auto, using(crate::proofs::Turns::at_end_is))]
+fn steps_of(line: &[u8]) -> Option<Line>
     ensures { result ≡ steps_of line.now }
 {
-    let p = field(line, Next::At(0), b"step=");
-    let behind_p = p.next;
-    let t = field(line, behind_p, b" times=");
-    let behind_t = t.next;
-    if ended(line, behind_t) {
-        Line::Steps(StepLine {
-            process: p.value,
-            times: t.value,
-        })
-    } else {
-        Line::NotInForm
-    }
+    let (process, line) = field(line, b"step=")?;
+    let (times, line) = field(line, b" times=")?;
+    let steps = StepLine { process, times };
+    line.is_empty().then_some(Line::Steps(steps))
 }
 
-fn list_of(line: &[u8]) -> Line
+#[tactic(auto, using(crate::proofs::Turns::at_end_is))]
+fn list_of(line: &[u8]) -> Option<Line>
     ensures { result ≡ list_of line.now }
 {
-    let next = literal_at(line, 0, b"list=all");
-    if ended(line, next) {
-        Line::List
-    } else {
-        Line::NotInForm
-    }
+    let line = literal(line, b"list=all")?;
+    line.is_empty().then_some(Line::List)
 }
 
-// The first of the two that is in its form. The forms' first bytes differ, so at most one is.
-fn first_of(a: Line, b: Line) -> Line
-    ensures { result ≡ first_of_lines a b }
-{
-    match a {
-        Line::Making(m) => Line::Making(m),
-        Line::Start(s) => Line::Start(s),
-        Line::Steps(s) => Line::Steps(s),
-        Line::List => Line::List,
-        Line::NotInForm => b,
-    }
-}
-
-// What a line, without its newline, asks for.
-pub fn read_line(line: &[u8]) -> Line
+// What a line, without its newline, asks for. The forms' first bytes differ, so at most one of them is the line's. "An absent k field is k=0."
+pub fn read_line(line: &[u8]) -> Option<Line>
     ensures { result ≡ line_of line.now }
 {
     if LONGEST < line.len() {
-        return Line::NotInForm;
+        return None;
     }
-    let steps = first_of(steps_of(line), list_of(line));
-    let start = first_of(start_of(line), steps);
-    let making = first_of(making_from(line, 0, Next::At(0)), start);
-    first_of(making_with_k(line), making)
+    making_with_k(line)
+        .or_else(|| making_from(0, line))
+        .or_else(|| start_of(line))
+        .or_else(|| steps_of(line))
+        .or_else(|| list_of(line))
 }

@@ -1,11 +1,11 @@
 -- What each return of a line's functions gives, and the turns of the steps' loop.
 use Prim.Native.Nat.{ℕ, zero, suc, ◌-◌, ◌≤◌, ◌<◌}
-use mathlib.Core.Path.{◌≡◌, sym, ap, ◌∙◌}
+use mathlib.Core.Path.{◌≡◌, refl, sym, ap, ◌∙◌}
 use mathlib.Core.Bool.{Bool, true, false}
 use mathlib.Core.List.{List}
 use native.Mathlib.Omega.{arith}
 use lib.ListN.{length, get_or, get_or-eq_default}
-use Rattle.std.specs.Prelude.{Result, Ok, Err}
+use Rattle.std.specs.Prelude.{Result, Ok, Err, Option, Some, None}
 use Rattle.tables.specs.Choice.{pick}
 use Rattle.tables.specs.declared.numbers.Refusal.{Refusal}
 use Rattle.tables.specs.declared.numbers.Refusal.TheVariants.{MakingNumber, NotInForm}
@@ -50,29 +50,24 @@ module _ (b b' : List ℕ) (row : List Process) (m : Making) (t : Bool) (r : Tur
 pub ruleset makings = (making_done_lem, making_refused_lem, making_beyond)
 
 -- a first line
-module _ (b b' : List ℕ) (row : List Process) (l : Line) (r : Turn) where
-  pub first_making : (m : Making) → l ≡ line.Making m → did r b' ≡ making_done b row m → did r b' ≡ first_done b row l
+module _ (b b' : List ℕ) (row : List Process) (l : Option Line) (r : Turn) where
+  pub first_making : (x : Line) (m : Making) → l ≡ Some x → x ≡ line.Making m → did r b' ≡ making_done b row m → did r b' ≡ first_done b row l
   unfolding first_done
-  first_making m e f = rw e f
+  first_making x m e f g = rw (e, f) g
 
   module _ (f : r ≡ turn_of (said.Refused NotInForm) stage.Ended row) where
-    pub first_start : (s : StartLine) → l ≡ line.Start s → did r b ≡ first_done b row l
+    pub first_other : (x : Line) → l ≡ Some x → ((m : Making) → x ≡ line.Making m → ⊥) → did r b ≡ first_done b row l
     unfolding first_done
-    first_start s e = rw (e, f)
+    first_other (line.Making m) e q = absurd (q m refl)
+    first_other (line.Start s) e q = rw (e, f)
+    first_other (line.Steps s) e q = rw (e, f)
+    first_other line.List e q = rw (e, f)
 
-    pub first_steps : (s : StepLine) → l ≡ line.Steps s → did r b ≡ first_done b row l
-    unfolding first_done
-    first_steps s e = rw (e, f)
-
-    pub first_list : l ≡ line.List → did r b ≡ first_done b row l
-    unfolding first_done
-    first_list e = rw (e, f)
-
-    pub first_none : l ≡ line.NotInForm → did r b ≡ first_done b row l
+    pub first_none : l ≡ None → did r b ≡ first_done b row l
     unfolding first_done
     first_none e = rw (e, f)
 
-pub ruleset firsts = (first_making, first_start, first_steps, first_list, first_none)
+pub ruleset firsts = (first_making, first_other, first_none)
 
 -- a start
 module _ (b : List ℕ) (row : List Process) (s : StartLine) (h : Held Result (Unit {0}) Refusal 32) (r : Turn)
@@ -155,32 +150,32 @@ module _ (b list list' : List ℕ) (o : Result ℕ Refusal) (f : list_out o list
 pub ruleset lists = (list_count, list_refused)
 
 -- a later line
-module _ (b b' list list' : List ℕ) (row : List Process) (l : Line) (r : Turn) where
-  pub later_making : (m : Making) → l ≡ line.Making m → r ≡ turn_of (said.Refused NotInForm) stage.Made row → done r b list ≡ later_done b list row l
+module _ (b b' list list' : List ℕ) (row : List Process) (l : Option Line) (r : Turn) where
+  pub later_making : (x : Line) (m : Making) → l ≡ Some x → x ≡ line.Making m → r ≡ turn_of (said.Refused NotInForm) stage.Made row → done r b list ≡ later_done b list row l
   unfolding later_done
-  later_making m e f = rw (e, f)
+  later_making x m d e f = rw (d, e, f)
 
-  pub later_start : (s : StartLine) → l ≡ line.Start s → r ≡ start_done b row s → done r b list ≡ later_done b list row l
+  pub later_start : (x : Line) (s : StartLine) → l ≡ Some x → x ≡ line.Start s → r ≡ start_done b row s → done r b list ≡ later_done b list row l
   unfolding later_done
-  later_start s e f = rw (e, f)
+  later_start x s d e f = rw (d, e, f)
 
-  pub later_steps : (s : StepLine) → l ≡ line.Steps s → did r b' ≡ steps_done b row s → done r b' list ≡ later_done b list row l
+  pub later_steps : (x : Line) (s : StepLine) → l ≡ Some x → x ≡ line.Steps s → did r b' ≡ steps_done b row s → done r b' list ≡ later_done b list row l
   unfolding later_done
-  later_steps s e f = rw e (ap (λ (d : Did). done d.turn d.block list) f)
+  later_steps x s d e f = rw (d, e) (ap (λ (d : Did). done d.turn d.block list) f)
 
-  pub later_list : (x : Said) → l ≡ line.List → ◌≡◌ {A = ListSaid} (record { said = x; list = list' }) (list_done b list) → r ≡ turn_of x stage.Made row →
+  pub later_list : (x : Line) (y : Said) → l ≡ Some x → x ≡ line.List → ◌≡◌ {A = ListSaid} (record { said = y; list = list' }) (list_done b list) → r ≡ turn_of y stage.Made row →
       done r b list' ≡ later_done b list row l
   unfolding later_done
-  later_list x e f g = rw (e, g) (ap (λ (o : ListSaid). done (turn_of o.said stage.Made row) b o.list) f)
+  later_list x y d e f g = rw (d, e, g) (ap (λ (o : ListSaid). done (turn_of o.said stage.Made row) b o.list) f)
 
-  pub later_none : l ≡ line.NotInForm → r ≡ turn_of (said.Refused NotInForm) stage.Made row → done r b list ≡ later_done b list row l
+  pub later_none : l ≡ None → r ≡ turn_of (said.Refused NotInForm) stage.Made row → done r b list ≡ later_done b list row l
   unfolding later_done
   later_none e f = rw (e, f)
 
 pub ruleset laters = (later_making, later_start, later_steps, later_list, later_none)
 
 -- a line, by the session's stage
-module _ (b b' list list' : List ℕ) (at : Stage) (row : List Process) (l : Line) (r : Turn) where
+module _ (b b' list list' : List ℕ) (at : Stage) (row : List Process) (l : Option Line) (r : Turn) where
   pub line_first : at ≡ stage.First → did r b' ≡ first_done b row l → done r b' list ≡ line_done b list at row l
   line_first e f = rw (e, ← f)
 

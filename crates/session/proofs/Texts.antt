@@ -2,10 +2,9 @@
 use Prim.Native.Nat.{ℕ, ◌+◌, ◌≤◌, ◌<◌}
 use mathlib.Core.Path.{◌≡◌, refl, sym, ap, ◌∙◌}
 use mathlib.Core.List.{List}
-use native.Mathlib.Omega.{arith}
 use native.Mathlib.Numerals.{add-one}
 use lib.ListN.{length, get_or, take, drop, drop_of_length-le}
-use lib.Seq.{drop-cons, take_all}
+use lib.Seq.{drop-cons}
 use Rattle.tables.specs.Refusal.{number_of}
 use Rattle.tables.specs.declared.numbers.Refusal.{Refusal}
 use Rattle.print.specs.Writing.{Out, out, written, key_line, answer_line, refused_line, count_line}
@@ -29,10 +28,6 @@ module _ (w : Out) (b keys : List ℕ) (at i : ℕ) (inv : w ≡ written b at (k
   keys_done p = sym (inv ∙ rw (drop_of_length-le keys p))
 
 pub ruleset key_turns = (keys_again, keys_done)
-
-module _ (b b' list : List ℕ) (at count r : ℕ) where
-  pub front_all : length list < count → out r b' ≡ written b at (key_lines list) → out r b' ≡ written b at (key_lines (take count list))
-  front_all p e = rw (take_all count list (omega arith)) e
 
 module _ (b b' list : List ℕ) (s : Said) (r : ℕ) where
   pub said_nothing : s ≡ said.Nothing → out 0 b ≡ written b 0 (said_text s list)

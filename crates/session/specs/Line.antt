@@ -1,5 +1,5 @@
 -- Document 01, "Bench program, given whole": what one line does to the block, the row and the list of keys, and what it says.
-use Rattle.std.specs.Prelude.{ℕ, zero, suc, Bool, true, false, List, leb, replicate, Result, Ok, Err}
+use Rattle.std.specs.Prelude.{ℕ, zero, suc, Bool, true, false, List, leb, replicate, Result, Ok, Err, Option, Some, None}
 use Rattle.tables.specs.Choice.{pick, both}
 use Rattle.tables.specs.Header.{header_of}
 use Rattle.tables.specs.Refusal.{refusal}
@@ -79,12 +79,12 @@ making_done b row m =
     pick (within_bench m) (did (made_turn o.answer o.row) o.block) (did (ended_by 1 row) b)
 
 -- the first line makes the tables; any other first line is not in its form
-unfoldable pub first_done : List ℕ → List Process → Line → Did
-first_done b row (line.Making m) = making_done b row m
-first_done b row (line.Start s) = did (ended_by 11 row) b
-first_done b row (line.Steps s) = did (ended_by 11 row) b
-first_done b row line.List = did (ended_by 11 row) b
-first_done b row line.NotInForm = did (ended_by 11 row) b
+unfoldable pub first_done : List ℕ → List Process → Option Line → Did
+first_done b row (Some (line.Making m)) = making_done b row m
+first_done b row (Some (line.Start s)) = did (ended_by 11 row) b
+first_done b row (Some (line.Steps s)) = did (ended_by 11 row) b
+first_done b row (Some line.List) = did (ended_by 11 row) b
+first_done b row None = did (ended_by 11 row) b
 
 -- "An accepted start .. print[s] nothing."
 abbrev pub start_turn : Result (Unit {0}) Refusal → List Process → Turn
@@ -136,15 +136,15 @@ list_done b list =
     record { said = list_said b o.listed; list = o.list }
 
 -- the lines after the first; a making line among them is not in its form
-unfoldable pub later_done : List ℕ → List ℕ → List Process → Line → Done
-later_done b list row (line.Making m) = done (refused_by 11 row) b list
-later_done b list row (line.Start s) = done (start_done b row s) b list
-later_done b list row (line.Steps s) = done (steps_done b row s).turn (steps_done b row s).block list
-later_done b list row line.List = done (turn_of (list_done b list).said stage.Made row) b (list_done b list).list
-later_done b list row line.NotInForm = done (refused_by 11 row) b list
+unfoldable pub later_done : List ℕ → List ℕ → List Process → Option Line → Done
+later_done b list row (Some (line.Making m)) = done (refused_by 11 row) b list
+later_done b list row (Some (line.Start s)) = done (start_done b row s) b list
+later_done b list row (Some (line.Steps s)) = done (steps_done b row s).turn (steps_done b row s).block list
+later_done b list row (Some line.List) = done (turn_of (list_done b list).said stage.Made row) b (list_done b list).list
+later_done b list row None = done (refused_by 11 row) b list
 
 -- what a line does; behind the end of a run it does nothing
-abbrev pub line_done : List ℕ → List ℕ → Stage → List Process → Line → Done
+abbrev pub line_done : List ℕ → List ℕ → Stage → List Process → Option Line → Done
 line_done b list stage.First row l = done (first_done b row l).turn (first_done b row l).block list
 line_done b list stage.Made row l = later_done b list row l
 line_done b list stage.Ended row l = done (turn_of said.Nothing stage.Ended row) b list

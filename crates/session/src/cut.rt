@@ -7,12 +7,8 @@ ghost use Rattle.session.specs.Cut.{in_line};
 pub fn line_end(piece: &[u8], at: usize) -> usize
     ensures { result ≡ at + length (front in_line (drop at piece.now)) }
 {
-    let mut i = at;
-    while i < piece.len() {
-        if piece[i] == b'\n' {
-            return i;
-        }
-        i += 1;
-    }
-    i
+    let Some(rest) = piece.get(at..) else {
+        return at;
+    };
+    at + rest.iter().position(|&b| b == b'\n').unwrap_or(rest.len())
 }

@@ -5,28 +5,26 @@ ghost use Rattle.session.specs.Line.{within_bench, begun, turn_of, did, done, ma
 ghost use Rattle.session.specs.declared.line.Said.TheVariants.{Refused};
 ghost use Rattle.session.specs.declared.line.Stage.TheVariants.{Ended, Made as MadeStage};
 
-use fresh::Made;
 use held::Held;
-use points::start::StartAnswer;
 use print::lines::{AnswerLine, CountLine, Making, StartLine, StepLine};
-use process::{Process, StepAnswer};
+use process::{Process, Progress};
 use script::lines::Line;
 use tables::numbers::Refusal;
-use tables::{choice, words};
+use tables::words;
 
 // "Bench program: at most 8 processes, 512 nodes, 512 records .. more is refused 1."
-pub const BENCH_PROCESSES: u64 = 8;
+pub const BENCH_PROCESSES: u32 = 8;
 
-pub const BENCH_NODES: u64 = 512;
+pub const BENCH_NODES: u32 = 512;
 
-pub const BENCH_RECORDS: u64 = 512;
+pub const BENCH_RECORDS: u32 = 512;
 
 const NODES_USED_AT: u64 = 3;
 
 const RECORDS_USED_AT: u64 = 5;
 
 // No line yet; the tables are made; a first line was refused.
-#[derive(Clone, Copy)]
+#[derive(Clone, Copy, Debug, PartialEq, Eq)]
 pub enum Stage {
     First,
     Made,
@@ -60,30 +58,23 @@ pub fn begin() -> Session
 {
     Session {
         stage: Stage::First,
-        row: [process::idle_record(); 32],
+        row: [Process::idle(); 32],
     }
 }
 
 fn saying(said: Said, stage: Stage, row: [Process; 32]) -> Turn
     ensures { result ≡ turn_of said stage row }
 {
-    let session = Session {
-        stage: stage,
-        row: row,
-    };
     Turn {
-        said: said,
-        session: session,
+        said,
+        session: Session { stage, row },
     }
 }
 
 fn within_bench(m: Making) -> bool
     ensures { result ≡ within_bench m }
 {
-    let a = choice::at_most(m.processes as u64, BENCH_PROCESSES);
-    let b = choice::at_most(m.nodes as u64, BENCH_NODES);
-    let c = choice::at_most(m.records as u64, BENCH_RECORDS);
-    choice::and(a, choice::and(b, c))
+    m.processes <= BENCH_PROCESSES && m.nodes <= BENCH_NODES && m.records <= BENCH_RECORDS
 }
 
 // "in the first line it ends the run"
@@ -96,28 +87,24 @@ fn ended(refusal: Refusal, row: [Process; 32]) -> Turn
 fn making(block: &mut [u32], row: [Process; 32], m: Making) -> Turn
     ensures { did result block.new ≡ making_done block.old row m }
 {
-    if within_bench(m) {
-        let h = held::make_held(block, row, m.k, m.processes, m.nodes, m.records);
-        let answer = h.answer;
-        let after = h.row;
-        match answer {
-            Made::Done => saying(Said::Nothing, Stage::Made, after),
-            Made::Refused(e) => ended(e, after),
-        }
-    } else {
-        ended(Refusal::MakingNumber, row)
+    if !within_bench(m) {
+        return ended(Refusal::MakingNumber, row);
+    }
+    let h = held::make_held(block, row, m.k, m.processes, m.nodes, m.records);
+    match h.answer {
+        Ok(()) => saying(Said::Nothing, Stage::Made, h.row),
+        Err(e) => ended(e, h.row),
     }
 }
 
-fn first(block: &mut [u32], row: [Process; 32], line: Line) -> Turn
+fn first(block: &mut [u32], row: [Process; 32], line: Option<Line>) -> Turn
     ensures { did result block.new ≡ first_done block.old row line }
 {
     match line {
-        Line::Making(m) => making(block, row, m),
-        Line::Start(_) => ended(Refusal::NotInForm, row),
-        Line::Steps(_) => ended(Refusal::NotInForm, row),
-        Line::List => ended(Refusal::NotInForm, row),
-        Line::NotInForm => ended(Refusal::NotInForm, row),
+        Some(Line::Making(m)) => making(block, row, m),
+        Some(Line::Start(_) | Line::Steps(_) | Line::List) | None => {
+            ended(Refusal::NotInForm, row)
+        }
     }
 }
 
@@ -131,43 +118,31 @@ fn start(block: &[u32], row: [Process; 32], s: StartLine) -> Turn
     ensures { result ≡ start_done block.now row s }
 {
     let h = held::start_held(block, row, s.process, s.op, s.key);
-    let answer = h.answer;
-    let after = h.row;
-    match answer {
-        StartAnswer::Accepted => saying(Said::Nothing, Stage::Made, after),
-        StartAnswer::Refused(e) => refused(e, after),
-    }
-}
-
-fn goes_on(answer: StepAnswer) -> bool
-    ensures { result ≡ goes_on answer }
-{
-    match answer {
-        StepAnswer::GoesOn => true,
-        StepAnswer::Ended(_, _) => false,
-        StepAnswer::Refused(_) => false,
+    match h.answer {
+        Ok(()) => saying(Said::Nothing, Stage::Made, h.row),
+        Err(e) => refused(e, h.row),
     }
 }
 
 // "`times` ends early at an answer or a refusal."
-fn steps(block: &mut [u32], row: [Process; 32], process: u32, times: u32) -> Held<StepAnswer, 32>
+fn steps(
+    block: &mut [u32],
+    row: [Process; 32],
+    process: u32,
+    times: u32,
+) -> Held<Result<Progress, Refusal>, 32>
     ensures { step_out result.answer block.new result.row ≡ steps_of times block.old row process }
 {
     let mut now = row;
-    let mut left = times;
-    while left > 0 {
+    for _ in 0..times {
         let h = held::step_held(block, now, process);
-        let answer = h.answer;
-        let after = h.row;
-        if goes_on(answer) {
-            now = after;
-            left -= 1;
-        } else {
-            return h;
+        match h.answer {
+            Ok(Progress::GoesOn) => now = h.row,
+            Ok(Progress::Ended(_, _)) | Err(_) => return h,
         }
     }
     Held {
-        answer: StepAnswer::GoesOn,
+        answer: Ok(Progress::GoesOn),
         row: now,
     }
 }
@@ -177,27 +152,23 @@ fn record_of(row: [Process; 32], process: u32) -> Process
     ensures { result ≡ record_of row process }
 {
     let at = process.saturating_sub(1) as usize;
-    if at < 32 {
-        row[at]
-    } else {
-        process::idle_record()
-    }
+    row.get(at).copied().unwrap_or(Process::idle())
 }
 
 // The operation and key that are printed are those of the process before the steps: an answer leaves it idle.
-fn steps_said(process: u32, q: Process, answer: StepAnswer) -> Said
+fn steps_said(process: u32, q: Process, answer: Result<Progress, Refusal>) -> Said
     ensures { result ≡ steps_said process q answer }
 {
     match answer {
-        StepAnswer::GoesOn => Said::Nothing,
-        StepAnswer::Ended(a, n) => Said::Answered(AnswerLine {
-            process: process,
+        Ok(Progress::GoesOn) => Said::Nothing,
+        Ok(Progress::Ended(a, steps)) => Said::Answered(AnswerLine {
+            process,
             op: q.operation,
             key: q.key,
-            answer: process::number_of(a),
-            steps: n,
+            answer: a.number(),
+            steps,
         }),
-        StepAnswer::Refused(e) => Said::Refused(e),
+        Err(e) => Said::Refused(e),
     }
 }
 
@@ -206,20 +177,16 @@ fn step_line(block: &mut [u32], row: [Process; 32], s: StepLine) -> Turn
 {
     let q = record_of(row, s.process);
     let h = steps(block, row, s.process, s.times);
-    let answer = h.answer;
-    let after = h.row;
-    let said = steps_said(s.process, q, answer);
-    saying(said, Stage::Made, after)
+    saying(steps_said(s.process, q, h.answer), Stage::Made, h.row)
 }
 
 // "The count line gives keys in the set, nodes used, records used."
 fn list_all(block: &[u32], list: &mut [u32]) -> Said
     ensures { record { said = result; list = list.new } ≡ list_done block.now list.old }
 {
-    let listed = index::listing(block, list);
-    match listed {
-        Ok(n) => Said::Listed(CountLine {
-            count: n,
+    match index::listing(block, list) {
+        Ok(count) => Said::Listed(CountLine {
+            count,
             nodes: words::word_at(block, NODES_USED_AT),
             records: words::word_at(block, RECORDS_USED_AT),
         }),
@@ -228,31 +195,28 @@ fn list_all(block: &[u32], list: &mut [u32]) -> Said
 }
 
 // A line once the tables are made. A making line is then not in its form.
-pub fn later(block: &mut [u32], list: &mut [u32], row: [Process; 32], line: Line) -> Turn
+pub fn later(block: &mut [u32], list: &mut [u32], row: [Process; 32], line: Option<Line>) -> Turn
     ensures { done result block.new list.new ≡ later_done block.old list.old row line }
 {
     match line {
-        Line::Making(_) => refused(Refusal::NotInForm, row),
-        Line::Start(s) => start(block, row, s),
-        Line::Steps(s) => step_line(block, row, s),
-        Line::List => {
+        Some(Line::Start(s)) => start(block, row, s),
+        Some(Line::Steps(s)) => step_line(block, row, s),
+        Some(Line::List) => {
             let said = list_all(block, list);
             saying(said, Stage::Made, row)
         }
-        Line::NotInForm => refused(Refusal::NotInForm, row),
+        Some(Line::Making(_)) | None => refused(Refusal::NotInForm, row),
     }
 }
 
 // What a line does, on every input.
-pub fn act(block: &mut [u32], list: &mut [u32], s: Session, line: Line) -> Turn
+pub fn act(block: &mut [u32], list: &mut [u32], s: Session, line: Option<Line>) -> Turn
     ensures { done result block.new list.new ≡ line_done block.old list.old s.stage s.row line }
 {
-    let stage = s.stage;
-    let row = s.row;
-    match stage {
-        Stage::First => first(block, row, line),
-        Stage::Made => later(block, list, row, line),
-        Stage::Ended => saying(Said::Nothing, Stage::Ended, row),
+    match s.stage {
+        Stage::First => first(block, s.row, line),
+        Stage::Made => later(block, list, s.row, line),
+        Stage::Ended => saying(Said::Nothing, Stage::Ended, s.row),
     }
 }
 
@@ -260,21 +224,15 @@ pub fn act(block: &mut [u32], list: &mut [u32], s: Session, line: Line) -> Turn
 pub fn is_over(s: Session) -> bool
     ensures { result ≡ is_over s.stage }
 {
-    let stage = s.stage;
-    match stage {
-        Stage::First => false,
-        Stage::Made => false,
-        Stage::Ended => true,
-    }
+    matches!(s.stage, Stage::Ended)
 }
 
 // The input has ended, and the run with it.
 pub fn finish(s: Session) -> Session
     ensures { result ≡ finished s }
 {
-    let row = s.row;
     Session {
         stage: Stage::Ended,
-        row: row,
+        ..s
     }
 }

@@ -12,10 +12,8 @@ fn put_keys(buffer: &mut [u8], at: usize, keys: &[u32]) -> usize
     ensures { out result buffer.new ≡ written buffer.old at (key_lines keys.now) }
 {
     let mut next = at;
-    let mut i: usize = 0;
-    while i < keys.len() {
-        next = write::write_key(buffer, next, keys[i]);
-        i += 1;
+    for &key in keys {
+        next = write::write_key(buffer, next, key);
     }
     next
 }
@@ -24,15 +22,11 @@ fn put_keys(buffer: &mut [u8], at: usize, keys: &[u32]) -> usize
 fn put_front(buffer: &mut [u8], at: usize, list: &[u32], count: u32) -> usize
     ensures { out result buffer.new ≡ written buffer.old at (key_lines (take count list.now)) }
 {
-    let n = count as usize;
-    if n <= list.len() {
-        put_keys(buffer, at, &list[..n])
-    } else {
-        put_keys(buffer, at, list)
-    }
+    put_keys(buffer, at, &list[..list.len().min(count as usize)])
 }
 
 // From the buffer's front, as far as the buffer reaches.
+#[tactic(auto, using(crate::proofs::Texts::saids))]
 pub fn put_said(buffer: &mut [u8], said: Said, list: &[u32]) -> usize
     ensures { out result buffer.new ≡ written buffer.old 0 (said_text said list.now) }
 {

@@ -1,6 +1,7 @@
 -- The proof that `write::write_making` keeps its contract.
-use Rattle.print.proofs.Buffers.{joined3}
+use Rattle.std.proofs.Common.{rules}
+use Rattle.print.proofs.Buffers.{joined3, given_back}
 use Rattle.print.proofs.write.write_making.Goals as goal
 
 pub returns : goal.returns
-returns c = search (joined3, c.write_plain_making.ensures, c.put_byte-space.ensures, c.put_named-k.ensures)
+returns c = given_back _ _ _ _ _ _ (joined3 _ _ _ _ _ _ _ _ _ _ _ c.making.ensures.puts c.bytes.ensures.puts c.named.ensures.puts) (search rules)

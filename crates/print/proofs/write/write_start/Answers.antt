@@ -1,6 +1,7 @@
 -- The proof that `write::write_start` keeps its contract.
-use Rattle.print.proofs.Buffers.{joined3}
+use Rattle.std.proofs.Common.{rules}
+use Rattle.print.proofs.Buffers.{joined3, given_back}
 use Rattle.print.proofs.write.write_start.Goals as goal
 
 pub returns : goal.returns
-returns c = search (joined3, c.put_named.ensures, c.put_op-op.ensures, c.put_named.ensures)
+returns c = given_back _ _ _ _ _ _ (joined3 _ _ _ _ _ _ _ _ _ _ _ c.named-2.ensures.puts c.op.ensures.puts c.named.ensures.puts) (search rules)

@@ -1,13 +1,22 @@
 -- The proof that `read::value_of` keeps its contract.
-use borrow.Author.Rules.{rules}
-use Rattle.script.proofs.Turns.{value_big, values}
+use Rattle.std.proofs.Common.{arith, refl, ◌∙◌}
+use Rattle.script.proofs.Turns.{value_again, value_big, value_done}
 use Rattle.script.proofs.read.value_of.Goals as goal
 
-pub returns-then-more-gt-MOST : goal.returns-then-more-gt-MOST
-returns-then-more-gt-MOST c = value_big _ _ _ c.loop-i.invariant.1.1 _ c.loop-i-test.true c.digit_value.ensures c.if-more-gt-MOST.true
+pub returns-in_err-checked_mul : goal.returns-in_err-checked_mul
+returns-in_err-checked_mul c = c.from_residual.ensures ∙ value_big _ _ _ c.loop-digit.invariant.1 _ c.loop-digit-test.true refl (omega arith)
 
-pub loop-i-preserved : goal.loop-i-preserved
-loop-i-preserved c = search (rules, values)
+pub returns-in_err-value : goal.returns-in_err-value
+returns-in_err-value c =
+    c.from_residual-in_err-value.ensures
+    ∙ value_big _ _ _ c.loop-digit.invariant.1 c.from.result c.loop-digit-test.true (c.from.ensures ∙ c.saturating_sub.ensures) (omega (arith, c.in_ok-checked_mul.ensures))
+
+pub loop-digit-preserved : goal.loop-digit-preserved
+loop-digit-preserved c = (
+  omega (arith, c.in_ok-value.ensures),
+  value_again _ _ _ c.loop-digit.invariant.1 c.from.result c.in_ok-value.value c.loop-digit-test.true (c.from.ensures ∙ c.saturating_sub.ensures)
+      (omega (arith, c.in_ok-value.ensures, c.in_ok-checked_mul.ensures)),
+)
 
 pub returns : goal.returns
-returns c = search (rules, values)
+returns c = value_done _ _ _ c.loop-digit.invariant.1 c.loop-digit-test.false c.loop-digit.invariant.0

@@ -1,25 +1,16 @@
 -- The proof that `cut::line_end` keeps its contract.
-use borrow.Author.Rules.{rules}
-use Rattle.session.proofs.Cuts.{ends}
+use Rattle.std.proofs.Common.{rules, arith, refl, eqb}
+use Rattle.std.proofs.lemmas.Iterator.{YieldsList-from_slice}
+use Rattle.std.proofs.lemmas.Iterator.Search.{position_from_yields_List}
+use Rattle.session.specs.Cut.{in_line}
+use Rattle.script.proofs.Runs.{run_end}
+use Rattle.session.proofs.Cuts.{end_past, end_in}
 use Rattle.session.proofs.cut.line_end.Goals as goal
 
-pub loop-i-init : goal.loop-i-init
-loop-i-init c = search (rules, ends)
-
-pub bounds-piece-i : goal.bounds-piece-i
-bounds-piece-i c = search (rules, ends)
-
-pub returns-then-piece-i-eq10 : goal.returns-then-piece-i-eq10
-returns-then-piece-i-eq10 c = search (rules, ends)
-
-pub overflow_add-i : goal.overflow_add-i
-overflow_add-i c = search (rules, ends)
-
-pub loop-i-smaller : goal.loop-i-smaller
-loop-i-smaller c = search (rules, ends)
-
-pub loop-i-preserved : goal.loop-i-preserved
-loop-i-preserved c = search (rules, ends)
+pub returns-in_default : goal.returns-in_default
+returns-in_default c = end_past _ _ (grind (arith, c.in_default.ensures.lookup))
 
 pub returns : goal.returns
-returns c = search (rules, ends)
+returns c =
+    let found = position_from_yields_List (λ b. eqb b 10) _ _ c.position.result c.position.ensures.ran (YieldsList-from_slice _ c.iter.ensures.rest) (λ x b q k. search rules) in
+    end_in _ _ _ _ c.in-Some.ensures.lookup.0.2 (run_end in_line _ (λ b. refl) _ _ _ found c.unwrap_or.ensures)

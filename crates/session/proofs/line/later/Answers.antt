@@ -2,6 +2,9 @@
 use Rattle.session.proofs.Lines.{laters}
 use Rattle.session.proofs.line.later.Goals as goal
 
+pub returns-in_default : goal.returns-in_default
+returns-in_default c = search laters
+
 pub returns-in-Making : goal.returns-in-Making
 returns-in-Making c = search laters
 
@@ -13,6 +16,3 @@ returns-in-Steps c = search laters
 
 pub returns-in-List : goal.returns-in-List
 returns-in-List c = search laters
-
-pub returns-in-NotInForm : goal.returns-in-NotInForm
-returns-in-NotInForm c = search laters

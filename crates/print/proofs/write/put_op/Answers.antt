@@ -1,6 +1,0 @@
--- The proof that `write::put_op` keeps its contract.
-use Rattle.print.proofs.Buffers.{fields}
-use Rattle.print.proofs.write.put_op.Goals as goal
-
-pub returns : goal.returns
-returns c = search fields
