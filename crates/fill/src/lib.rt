@@ -30,6 +30,7 @@ impl Pass for Filling<'_> {
 
     fn leaf(&mut self, block: &[u32], h: Header, node: u32, count: u8) {
         store_keys(block, h, node, count, self.list, self.at);
+        // A leaf has a byte of keys at most and a walk 16 bits of nodes: the place never gets so far.
         self.at = self.at.saturating_add(u32::from(count));
     }
 

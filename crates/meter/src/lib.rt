@@ -2,7 +2,7 @@
 // Its public functions ask nothing of their callers.
 #![tactic(auto)]
 
-ghost use Rattle.std.specs.Prelude.{◌≡◌, ◌≤◌, ℕ, Bool, true, false, List, [], ◌++◌};
+ghost use Rattle.std.specs.Prelude.{◌≡◌, ℕ, Bool, true, false, List, [], ◌++◌};
 ghost use Rattle.tables.specs.Choice.{both};
 ghost use Rattle.nodes.specs.Keys.{keys_of, rises};
 ghost use Rattle.meter.specs.Walk.{met_from, walked};
@@ -29,7 +29,7 @@ pub trait Pass {
 
     ghost behind: { (p q r : Self) (ks ls : List ℕ) (s t : Bool) → met p ks s q → met q ls t r → met p (ks ++ ls) (both s t) r };
 
-    // The walk down from a node, ended by the number of nodes still allowed, which it answers.
+    // The walk down from a node, children in order, ended by the number of nodes still allowed, which it answers.
     final fn walk(&mut self, block: &[u32], h: Header, child: Option<Kin>, allowed: u16) -> u16
         ensures left { result ≡ (met_from block.now h child allowed).allowed }
         ensures met { met self.old (met_from block.now h child allowed).keys (met_from block.now h child allowed).sound self.new }

@@ -22,7 +22,7 @@ use Rattle.tables.proofs.OneToOne.{none_accepts, first_refuses}
 use Rattle.meter.specs.Walk.{walked}
 use Rattle.meter.specs.Measure.{any_within}
 use Rattle.walk.specs.Calls.{keys_met, list_rest, list_reasons, ListOut, list_out, list_of, part_of, ClearOf, Between, range_rest, range_reasons, range_of}
-use Rattle.walk.proofs.Answers.{one_listed, list_first_says, list_counts, range_first_says, Among, any_between, none_clear, clear_yes, range_between_no, yes_clear, no_between}
+use Rattle.walk.proofs.Answers.{one_refusal, list_first_says, list_counts, range_first_says, Among, any_between, none_clear, clear_yes, range_between_no, yes_clear, no_between}
 use Rattle.history.proofs.Invariant.{Sound}
 use Rattle.link.specs.Tables.{tables_of}
 use Rattle.link.specs.Sets.{Has}
@@ -39,10 +39,7 @@ list_apart n e xs ys q = let z : ◌≡◌ {A = ℕ} 0 1 = apart (ap (λ (o : Li
     apart q = cc
 
 list_same : (d e : Refusal) (xs : List ℕ) → list_out (Err d) xs ≡ list_out (Err e) xs → e ≡ d
-list_same d e xs q = sym (one_listed d e (ap (λ (o : ListOut). o.listed) q))
-
-cleared_same : (d e : Refusal) → ◌≡◌ {A = Result Bool Refusal} (Err d) (Err e) → e ≡ d
-cleared_same d e q = cc
+list_same d e xs q = sym (one_refusal d e (ap (λ (o : ListOut). o.listed) q))
 
 neither : {s t : Bool} → s ≡ false → t ≡ false → either s t ≡ false
 unfolding pick
@@ -164,7 +161,7 @@ module _ {b : List ℕ} (fit : Fit (header_of b) b) (I : Sound (header_of b).k (
     range_refuses e z = go (ℕ_discrete low infinity) (ℕ_discrete high infinity) (dec_lt high low)
       where
         infinite : (low ≡ infinity) ⊎ (high ≡ infinity) → ((e ≡ InfinityGiven) × ((low ≡ infinity) ⊎ (high ≡ infinity))) ⊎ ((e ≡ LowAboveHigh) × (high < low))
-        infinite i = inl (cleared_same InfinityGiven e (sym (range_infinite i) ∙ z), i)
+        infinite i = inl (sym (one_refusal InfinityGiven e (sym (range_infinite i) ∙ z)), i)
 
         never : (range_of b low high ≡ Ok true) ⊎ (range_of b low high ≡ Ok false) → ⊥
         never (inl y) = let v : ◌≡◌ {A = Result Bool Refusal} (Ok true) (Err e) = sym y ∙ z in let n : ◌≡◌ {A = ℕ} 0 1 = cc in omega arith
@@ -173,5 +170,5 @@ module _ {b : List ℕ} (fit : Fit (header_of b) b) (I : Sound (header_of b).k (
         go : Dec (low ≡ infinity) → Dec (high ≡ infinity) → Dec (high < low) → ((e ≡ InfinityGiven) × ((low ≡ infinity) ⊎ (high ≡ infinity))) ⊎ ((e ≡ LowAboveHigh) × (high < low))
         go (yes p) d l = infinite (inl p)
         go (no p) (yes q) l = infinite (inr q)
-        go (no p) (no q) (yes l) = inr (cleared_same LowAboveHigh e (sym (range_above p q l) ∙ z), l)
+        go (no p) (no q) (yes l) = inr (sym (one_refusal LowAboveHigh e (sym (range_above p q l) ∙ z)), l)
         go (no p) (no q) (no l) = absurd (never (range_answers p q (omega arith)))

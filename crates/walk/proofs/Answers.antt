@@ -20,8 +20,9 @@ use Rattle.walk.specs.Calls.{keys_met, list_reasons, ListOut, list_out, list_of,
 use Rattle.walk.specs.Parts.{filled_of}
 use Rattle.walk.proofs.Calling.{part_is}
 
-pub one_listed : (d e : Refusal) → ◌≡◌ {A = Result ℕ Refusal} (Err d) (Err e) → d ≡ e
-one_listed d e q = cc
+-- a refusal is one thing
+pub one_refusal : {T : Type 0} (d e : Refusal) → ◌≡◌ {A = Result T Refusal} (Err d) (Err e) → d ≡ e
+one_refusal d e q = cc
 
 -- two answers that say the same are the same
 said_answer : (m n : ℕ) → answered m ≡ answered n → m ≡ n
@@ -73,7 +74,7 @@ module _ (b list : List ℕ) where
   unfolding both
   list_says_first e =
       answers_first (λ d. list_out (Err d) list) full (list_reasons b (length list)) e
-      (λ d q. one_listed d e (ap (λ (o : ListOut). o.listed) q)) (never e) refl
+      (λ d q. one_refusal d e (ap (λ (o : ListOut). o.listed) q)) (never e) refl
 
   pub list_first_says : (e : Refusal) → First (number_of e) (list_reasons b (length list)) → list_of b list ≡ list_out (Err e) list
   list_first_says e = first_answers (λ d. list_out (Err d) list) full (list_reasons b (length list)) e
@@ -114,7 +115,7 @@ module _ (b : List ℕ) (low high : ℕ) where
   pub range_says_first : (e : Refusal) → range_of b low high ≡ Err e → First (number_of e) (range_reasons b low high)
   unfolding both
   range_says_first e =
-      answers_first Err yes_or_no (range_reasons b low high) e (λ d q. cc) (some_answer (any_within low high (keys_met b)) e) refl
+      answers_first Err yes_or_no (range_reasons b low high) e (λ d q. one_refusal d e q) (some_answer (any_within low high (keys_met b)) e) refl
 
   pub range_first_says : (e : Refusal) → First (number_of e) (range_reasons b low high) → range_of b low high ≡ Err e
   range_first_says e = first_answers Err yes_or_no (range_reasons b low high) e
