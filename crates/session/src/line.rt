@@ -90,10 +90,10 @@ fn making(block: &mut [u32], row: [Process; 32], m: Making) -> Turn
     if !within_bench(m) {
         return ended(Refusal::MakingNumber, row);
     }
-    let h = held::make_held(block, row, m.k, m.processes, m.nodes, m.records);
-    match h.answer {
-        Ok(()) => saying(Said::Nothing, Stage::Made, h.row),
-        Err(e) => ended(e, h.row),
+    let made = held::make_held(block, row, m.k, m.processes, m.nodes, m.records);
+    match made.answer {
+        Ok(()) => saying(Said::Nothing, Stage::Made, made.row),
+        Err(e) => ended(e, made.row),
     }
 }
 
@@ -138,7 +138,8 @@ fn steps(
         let h = held::step_held(block, now, process);
         match h.answer {
             Ok(Progress::GoesOn) => now = h.row,
-            Ok(Progress::Ended(_, _)) | Err(_) => return h,
+            Ok(Progress::Ended(_, _)) => return h,
+            Err(_) => return h,
         }
     }
     Held {
