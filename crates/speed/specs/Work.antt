@@ -87,7 +87,7 @@ round_out t b = record { tally = t; block = b }
 
 -- the block of a fresh tree for one process, or the block as it was
 abbrev pub fresh_of : Work → List ℕ → List ℕ
-fresh_of w b = (make_call b (replicate 1 idle) w.k 1 w.nodes w.records).block
+fresh_of w b = (make_call b (replicate 32 idle) w.k 1 w.nodes w.records).block
 
 abbrev pub changed : DoneOut → RoundOut
 changed c = round_out c.tally c.block

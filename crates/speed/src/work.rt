@@ -4,7 +4,8 @@ ghost use Rattle.speed.specs.Steps.{steps_out, steps_from};
 ghost use Rattle.speed.specs.Operation.{ending_of, operate_out, operate_of};
 ghost use Rattle.speed.specs.Work.{key_of, is_over, mixed_of, tallied_of, nothing_yet, period_of, asked_of, change_of, turn_of, done_out, done_from, fresh_of, round_out, round_of, rounds_from};
 
-use process::{Answer, Process, StepAnswer};
+use process::{Answer, Process, Progress};
+use tables::numbers::Refusal;
 
 // More steps than any operation of a process alone takes.
 const MOST_STEPS: u32 = 1000000;
@@ -68,25 +69,25 @@ fn key_of(i: u32) -> u32
 }
 
 // Steps of process 1 in a row of one record, until an answer or a refusal; at most so many.
-fn steps(block: &mut [u32], held: [Process; 1], most: u32) -> StepAnswer
+fn steps(block: &mut [u32], held: [Process; 1], most: u32) -> Result<Progress, Refusal>
     ensures { steps_out result block.new ≡ steps_from most block.old held }
 {
     let mut row = held;
     for _ in 0..most {
         match index::step(block, &mut row, 1) {
-            StepAnswer::GoesOn => {}
+            Ok(Progress::GoesOn) => {}
             answer => return answer,
         }
     }
-    StepAnswer::GoesOn
+    Ok(Progress::GoesOn)
 }
 
-fn ending_of(answer: StepAnswer) -> Option<Ending>
+fn ending_of(answer: Result<Progress, Refusal>) -> Option<Ending>
     ensures { result ≡ ending_of answer }
 {
     match answer {
-        StepAnswer::Ended(answer, steps) => Some(Ending { answer, steps }),
-        StepAnswer::GoesOn | StepAnswer::Refused(_) => None,
+        Ok(Progress::Ended(answer, steps)) => Some(Ending { answer, steps }),
+        Ok(Progress::GoesOn) | Err(_) => None,
     }
 }
 
@@ -95,8 +96,8 @@ fn ending_of(answer: StepAnswer) -> Option<Ending>
 fn operate(block: &mut [u32], operation: u32, key: u32) -> Option<Ending>
     ensures { operate_out result block.new ≡ operate_of block.old operation key }
 {
-    let mut row = [process::idle_record(); 1];
-    index::start(block, &mut row, 1, operation, key);
+    let mut row = [Process::idle(); 1];
+    let _ = index::start(block, &mut row, 1, operation, key);
     ending_of(steps(block, row, MOST_STEPS))
 }
 
@@ -120,7 +121,7 @@ impl Tally {
         ensures { self.new ≡ tallied_of self.old e }
     {
         let (number, steps) = match e {
-            Some(e) => (process::number_of(e.answer), e.steps),
+            Some(e) => (e.answer.number(), e.steps),
             None => (NO_ANSWER, 0),
         };
         match e.map(|e| e.answer) {
@@ -202,14 +203,7 @@ fn perform(block: &mut [u32], part: Part, number: u32, tally: &mut Tally) -> u32
 fn fresh(block: &mut [u32], w: Work)
     ensures { block.new ≡ fresh_of w block.old }
 {
-    held::make_held(
-        block,
-        [process::idle_record(); 1],
-        w.k,
-        1,
-        w.nodes,
-        w.records,
-    );
+    held::make_held(block, [Process::idle(); 32], w.k, 1, w.nodes, w.records);
 }
 
 // A tree, and all that is to be done on it.

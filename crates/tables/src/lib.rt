@@ -2,7 +2,6 @@
 // Every public function is total: it asks nothing of its caller and states its result, and every lent word, on every input.
 #![tactic(auto, unfolding(crate::specs::Choice::pick, crate::specs::Choice::both))]
 
-pub mod choice;
 pub mod header;
 pub mod numbers;
 pub mod words;
