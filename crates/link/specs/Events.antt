@@ -9,7 +9,6 @@ use Rattle.fresh.specs.Fresh.{fresh_header, fresh_block, fresh_row}
 use Rattle.tables.specs.declared.header.Header.{Header}
 use Rattle.process.specs.declared.Process.{Process}
 use Rattle.process.specs.declared.Progress.{Progress}
-use Rattle.process.specs.declared.Progress.TheVariants.{GoesOn, Ended, Err as StepRefused}
 use Rattle.process.specs.Process.{idle}
 use Rattle.process.specs.Answer.{most_steps}
 use Rattle.index.specs.Calls.{record_of, StartOut, start_call, StepOut, step_call}
@@ -80,9 +79,8 @@ since_at s es n (suc m) = pick (starts (state_at s es m) (event_at es m) n) (suc
 
 -- the event is an accepted step of process n: it goes on, or gives an answer
 abbrev pub is_answered : Result Progress Refusal → Bool
-is_answered (Ok GoesOn) = true
-is_answered (Ok (Ended a steps)) = true
-is_answered (StepRefused e) = false
+is_answered (Ok p) = true
+is_answered (Err e) = false
 
 abbrev pub stepped_by : State → Event → ℕ → Bool
 stepped_by s (start m operation key) n = false
