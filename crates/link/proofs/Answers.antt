@@ -63,7 +63,7 @@ pub record Behind (s : State) (es : List Event) (m n : ℕ) : Type 0 where
   pub before : when < m
   pub swap : ChildSwap s es when r
 
-one_ok : {p r : Progress} → ◌≡◌ {A = Result Progress Refusal} (Ok p) (Ok r) → p ≡ r
+pub one_ok : {p r : Progress} → ◌≡◌ {A = Result Progress Refusal} (Ok p) (Ok r) → p ≡ r
 one_ok e = cc
 
 ended_one : (a c : Answer) (x y : ℕ) → Ended a x ≡ Ended c y → (a ≡ c) × (x ≡ y)
