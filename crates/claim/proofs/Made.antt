@@ -11,8 +11,8 @@ use Rattle.tables.specs.Choice.{pick}
 use Rattle.tables.specs.Numbers.{k_stored, numbers_good}
 use Rattle.tables.specs.Refusal.{refusal}
 use Rattle.tables.specs.Layout.{block_words}
-use Rattle.fresh.specs.Fresh.{fresh_header}
 use Rattle.tables.specs.declared.numbers.Refusal.{Refusal}
+use Rattle.fresh.specs.Fresh.{fresh_header}
 use Rattle.process.specs.declared.Process.{Process}
 use Rattle.points.proofs.Refusals.{ok_not}
 use Rattle.make.specs.Make.{make_call}

@@ -8,7 +8,6 @@ use native.Mathlib.Omega.{arith}
 use native.Mathlib.Decide.{dec_lt}
 use borrow.Author.Tests.{eq-eqb}
 use Rattle.std.specs.Prelude.{Result, Ok}
-use Rattle.tables.specs.declared.numbers.Refusal.{Refusal}
 use Rattle.tables.specs.Choice.{pick}
 use Rattle.process.specs.declared.Process.{Process}
 use Rattle.process.specs.declared.Answer.{Answer}
@@ -18,6 +17,7 @@ use Rattle.process.specs.declared.Progress.TheVariants.{GoesOn, Ended}
 use Rattle.process.specs.declared.Stepped.{Stepped}
 use Rattle.process.specs.Answer.{steps_up}
 use Rattle.tables.specs.Refusal.{refusal}
+use Rattle.tables.specs.declared.numbers.Refusal.{Refusal}
 use Rattle.tables.proofs.Picks.{both_is}
 use Rattle.points.specs.Rows.{row_of}
 use Rattle.points.proofs.Refusals.{ok_not}
