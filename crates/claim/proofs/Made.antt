@@ -3,17 +3,18 @@ use Prim.Native.Nat.{ℕ, ◌≤◌}
 use mathlib.Core.Path.{◌≡◌, refl, sym, ◌∙◌}
 use mathlib.Core.Bool.{Bool, true, false}
 use mathlib.Core.List.{List}
-use native.Mathlib.Omega.{arith}
 use lib.Dec.{ltb}
 use lib.ListN.{length}
 use borrow.Author.Tests.{ltb-false}
-use Rattle.std.specs.Prelude.{Ok, Err}
+use Rattle.std.specs.Prelude.{Result, Ok, Err}
 use Rattle.tables.specs.Choice.{pick}
 use Rattle.tables.specs.Numbers.{k_stored, numbers_good}
 use Rattle.tables.specs.Refusal.{refusal}
 use Rattle.tables.specs.Layout.{block_words}
+use Rattle.tables.specs.declared.numbers.Refusal.{Refusal}
 use Rattle.fresh.specs.Fresh.{fresh_header}
 use Rattle.process.specs.declared.Process.{Process}
+use Rattle.points.proofs.Refusals.{ok_not}
 use Rattle.make.specs.Make.{make_call}
 use Rattle.link.specs.Events.{Event, AllProper, State, state_at, fresh_state}
 use Rattle.link.proofs.Beginning.{fresh_none}
@@ -34,10 +35,10 @@ module _ (b : List ℕ) (row : List Process) (k processes nodes records : ℕ) {
       all : Claim fresh es
       all = claimed (reached_fresh k processes nodes records b row f g h proper)
 
-  refuses : (n : ℕ) → Err (refusal n) ≡ (Ok tt) → ⊥
-  refuses n e = let z : ◌≡◌ {A = ℕ} 0 1 = cc in omega arith
+  refuses : (n : ℕ) → ◌≡◌ {A = Result (Unit {0}) Refusal} (Err (refusal n)) (Ok tt) → ⊥
+  refuses n e = ok_not tt (refusal n) (sym e)
 
-  pub demand_3 : (make_call b row k processes nodes records).answer ≡ (Ok tt) → Demand (made b row k processes nodes records) es
+  pub demand_3 : (make_call b row k processes nodes records).answer ≡ Ok tt → Demand (made b row k processes nodes records) es
   unfolding make_call pick
   demand_3 e = go (numbers_good (k_stored k) processes nodes records) refl (ltb (length b) (block_words (fresh_header k processes nodes records))) refl (ltb (length row) processes) refl
     where

@@ -32,7 +32,7 @@ use Rattle.link.proofs.Outcomes.{Outcome, nothing, begun, moved, outcome}
 use Rattle.link.proofs.Becoming.{accepts}
 use Rattle.link.proofs.Clauses.{Reached, good, step_at, grows, processes_at}
 use Rattle.link.proofs.Story.{Story, story}
-use Rattle.link.proofs.Answers.{answer_steps, Drawn}
+use Rattle.link.proofs.Answers.{one_ok, answer_steps, Drawn}
 use Rattle.link.proofs.Origins.{NewAt, new_drawn, comes}
 use Rattle.link.proofs.Owners.{owned}
 
@@ -58,7 +58,7 @@ module _ (s : State) (es : List Event) where
             key = x;
             started = record {
               event = z ∙ ap (λ (y : ℕ). start y o x) same;
-              accepted = subst (λ (y : ℕ). (start_in (state_at s es i) y o x).answer ≡ (Ok tt)) same (accepts (start_in (state_at s es i) p o x).answer (both_2 (eqb p n) (is_accepted (start_in (state_at s es i) p o x).answer) f));
+              accepted = subst (λ (y : ℕ). (start_in (state_at s es i) y o x).answer ≡ Ok tt) same (accepts (start_in (state_at s es i) p o x).answer (both_2 (eqb p n) (is_accepted (start_in (state_at s es i) p o x).answer) f));
             };
             starts_it = e;
           }
@@ -218,11 +218,11 @@ module _ {s : State} {es : List Event} (reached : Reached s es) where
           same : p ≡ n
           same = step_one p n (sym z ∙ x.event)
 
-          says : (step_in (W m) p).answer ≡ Ended a c
-          says = subst (λ (q : ℕ). (step_in (W m) q).answer ≡ Ended a c) (sym same) x.answer
+          says : (step_in (W m) p).answer ≡ Ok (Ended a c)
+          says = subst (λ (q : ℕ). (step_in (W m) q).answer ≡ Ok (Ended a c)) (sym same) x.answer
 
           on : (q : Process) → (row_of (block_at s es m) (header_at s es m) p (taken (W m) p)).stepped ≡ going_on q → ⊥
-          on q r = let v : (Ok GoesOn) ≡ Ended a c = sym (ap (λ (o : StepOut). o.answer) e ∙ ap (λ (o : Stepped). o.answer) r) ∙ says in let w : ◌≡◌ {A = ℕ} 0 1 = cc in omega arith
+          on q r = let v : GoesOn ≡ Ended a c = sym (ap (λ (o : Stepped). o.progress) r) ∙ one_ok (sym (ap (λ (o : StepOut). o.answer) e) ∙ says) in let w : ◌≡◌ {A = ℕ} 0 1 = cc in omega arith
 
           own : taken (W (suc m)) p ≡ (row_of (block_at s es m) (header_at s es m) p (taken (W m) p)).stepped.process
           own =

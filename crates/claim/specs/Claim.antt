@@ -13,7 +13,6 @@ use Rattle.tables.specs.declared.numbers.Refusal.TheVariants.{ListTooShort}
 use Rattle.process.specs.declared.Process.{Process}
 use Rattle.process.specs.declared.Answer.{Answer}
 use Rattle.process.specs.declared.Answer.TheVariants.{No, Yes, Full}
-use Rattle.process.specs.declared.Progress.TheVariants as steps
 use Rattle.make.specs.Make.{make_call}
 use Rattle.walk.specs.Calls.{list_out, list_of, part_of, ClearOf, Between, range_of}
 use Rattle.history.specs.View.{In, route, keys, Reach, Below}

@@ -7,17 +7,20 @@ use mathlib.Core.List.{List}
 use native.Mathlib.Omega.{arith}
 use native.Mathlib.Decide.{dec_lt}
 use borrow.Author.Tests.{eq-eqb}
-use Rattle.std.specs.Prelude.{Ok, Err}
+use Rattle.std.specs.Prelude.{Result, Ok}
 use Rattle.tables.specs.Choice.{pick}
 use Rattle.process.specs.declared.Process.{Process}
 use Rattle.process.specs.declared.Answer.{Answer}
 use Rattle.process.specs.declared.Answer.TheVariants.{No, Yes, Full}
+use Rattle.process.specs.declared.Progress.{Progress}
 use Rattle.process.specs.declared.Progress.TheVariants.{GoesOn, Ended}
 use Rattle.process.specs.declared.Stepped.{Stepped}
 use Rattle.process.specs.Answer.{steps_up}
 use Rattle.tables.specs.Refusal.{refusal}
+use Rattle.tables.specs.declared.numbers.Refusal.{Refusal}
 use Rattle.tables.proofs.Picks.{both_is}
 use Rattle.points.specs.Rows.{row_of}
+use Rattle.points.proofs.Refusals.{ok_not}
 use Rattle.index.specs.Calls.{StepOut}
 use Rattle.history.specs.View.{In, Holds}
 use Rattle.history.specs.Run.{Moment}
@@ -60,6 +63,9 @@ pub record Behind (s : State) (es : List Event) (m n : ℕ) : Type 0 where
   pub before : when < m
   pub swap : ChildSwap s es when r
 
+pub one_ok : {p r : Progress} → ◌≡◌ {A = Result Progress Refusal} (Ok p) (Ok r) → p ≡ r
+one_ok e = cc
+
 ended_one : (a c : Answer) (x y : ℕ) → Ended a x ≡ Ended c y → (a ≡ c) × (x ≡ y)
 ended_one a c x y e = (cc, cc)
 
@@ -88,19 +94,13 @@ module _ {s : State} {es : List Event} (reached : Reached s es) where
     told = go (calls.step_goes (W m) (good reached m).now.fit (good reached m).rows n)
       where
         refused : (r : ℕ) → step_in (W m) n ≡ step_refused_in (W m) r → ⊥
-        refused r e = no (sym (ap (λ (o : StepOut). o.answer) e) ∙ answered.answer)
-          where
-            no : Err (refusal r) ≡ Ended a c → ⊥
-            no x = let z : ◌≡◌ {A = ℕ} 0 1 = cc in omega arith
+        refused r e = ok_not (Ended a c) (refusal r) (sym answered.answer ∙ ap (λ (o : StepOut). o.answer) e)
 
-        says : (t : Stepped) → (step_in (W m) n).answer ≡ t.answer → In (header_at s es m).processes n → q.operation ≢ 0 → i ≤ m
-            → (t.answer ≡ (Ok GoesOn)) ⊎ ((x : Answer) × (t.answer ≡ Ended x (steps_up q.steps)) × Why (header_at s es m).k S i m n q x) → Told s es k m n a c
-        says t e u d l (inl g) = absurd (no (sym g ∙ sym e ∙ answered.answer))
-          where
-            no : (Ok GoesOn) ≡ Ended a c → ⊥
-            no x = let z : ◌≡◌ {A = ℕ} 0 1 = cc in omega arith
+        says : (t : Stepped) → (step_in (W m) n).answer ≡ Ok t.progress → In (header_at s es m).processes n → q.operation ≢ 0 → i ≤ m
+            → (t.progress ≡ GoesOn) ⊎ ((x : Answer) × (t.progress ≡ Ended x (steps_up q.steps)) × Why (header_at s es m).k S i m n q x) → Told s es k m n a c
+        says t e u d l (inl g) = let v : GoesOn ≡ Ended a c = sym g ∙ one_ok (sym e ∙ answered.answer) in let z : ◌≡◌ {A = ℕ} 0 1 = cc in absurd (omega arith)
         says t e u d l (inr g) =
-            let z = ended_one g.0 a (steps_up q.steps) c (sym g.1 ∙ sym e ∙ answered.answer) in
+            let z = ended_one g.0 a (steps_up q.steps) c (sym g.1 ∙ one_ok (sym e ∙ answered.answer)) in
             record {
               place = u;
               busy = d;

@@ -24,7 +24,7 @@ use Rattle.link.proofs.Keeps.{Kept, goes, stops, kept}
 use Rattle.link.proofs.Outcomes.{Outcome, nothing, begun, moved, outcome}
 use Rattle.link.proofs.Clauses.{Reached, good}
 
-pub accepts : (a : Result (Unit {0}) Refusal) → is_accepted a ≡ true → a ≡ (Ok tt)
+pub accepts : (a : Result (Unit {0}) Refusal) → is_accepted a ≡ true → a ≡ Ok tt
 accepts (Ok tt) e = refl
 accepts (Err x) e = let z : ◌≡◌ {A = ℕ} 0 1 = cc in absurd (omega arith)
 
@@ -88,7 +88,7 @@ module _ {s : State} {es : List Event} (reached : Reached s es) where
             said o (goes q x st op ky ow) =
                 absurd (omega (arith, y.counters.op_low, sym op ∙ sym (ap (λ (q : Process). q.operation) own ∙ ap (λ (t : Stepped). t.process.operation) x) ∙ o))
             said o (stops a x) =
-                (a, steps_up (taken (W m) p).steps, record { event = z; answer = ap (λ (r : StepOut). r.answer) e ∙ ap (λ (t : Stepped). t.answer) x })
+                (a, steps_up (taken (W m) p).steps, record { event = z; answer = ap (λ (r : StepOut). r.answer) e ∙ ap (λ (t : Stepped). Ok t.progress) x })
 
             at : Dec (n ≡ p) → (a : Answer) × (count : ℕ) × Answered s es m n a count
             at (yes a) =

@@ -5,7 +5,7 @@ use mathlib.Core.Logic.{◌≢◌, ◌⊎◌, inl, inr}
 use mathlib.Core.List.{List, Memᴰ}
 use native.Mathlib.Omega.{arith}
 use lib.ListN.{length}
-use Rattle.std.specs.Prelude.{Ok, Err}
+use Rattle.std.specs.Prelude.{Err}
 use Rattle.tables.specs.Refusal.{number_of, refusal}
 use Rattle.tables.specs.declared.header.Header.{Header}
 use Rattle.tables.specs.declared.numbers.Refusal.{Refusal}
@@ -15,9 +15,7 @@ use Rattle.process.specs.declared.Answer.{Answer}
 use Rattle.process.specs.declared.Progress.TheVariants.{GoesOn, Ended}
 use Rattle.process.specs.declared.Stepped.{Stepped}
 use Rattle.process.specs.Answer.{steps_up}
-use Rattle.points.specs.Rows.{row_of}
-use Rattle.points.specs.declared.start.StartAnswer.TheVariants as start-answers
-use Rattle.points.proofs.Refusals.{one_step, one_start}
+use Rattle.points.proofs.Refusals.{one_err, ok_not}
 use Rattle.index.specs.Calls.{StartOut, StepOut}
 use Rattle.history.specs.View.{In, route, keys, Reach, Below}
 use Rattle.history.specs.Shared.{Shared}
@@ -29,11 +27,11 @@ use Rattle.history.proofs.ChildWords.{kids_same}
 use Rattle.history.proofs.SetLaws.{step_set_same, step_set_swap}
 use Rattle.history.proofs.Runs.{sound_at, grown_at}
 use Rattle.history.proofs.Swapping.{SwapBetween, one_swap}
-use Rattle.link.specs.Events.{Event, State, taken, start_in, step_in, event_at, state_at, block_at, header_at, Proper, since_at}
+use Rattle.link.specs.Events.{Event, State, taken, start_in, step_in, event_at, state_at, block_at, header_at, Proper}
 use Rattle.link.specs.Swaps.{ChildSwap}
 use Rattle.link.specs.Operations.{NoStep, step_of_none, step_of_idle, NoStart}
 use Rattle.link.proofs.Moments.{tables, Why, Follows, already, afterwards, answers, k_low}
-use Rattle.link.proofs.Stepping.{turn, step_sound}
+use Rattle.link.proofs.Stepping.{step_sound}
 use Rattle.link.proofs.Calls as calls
 use Rattle.link.proofs.Constants.{constant}
 use Rattle.link.proofs.Reached.{Good, at_work, step_one, Kind, no_swap, swap_of, move, good_always}
@@ -41,10 +39,10 @@ use Rattle.link.proofs.Beginning.{Settled, good_settled}
 
 -- a step of a busy process goes on or ends
 pub stepped_says : {hs : ℕ → Header} {bs : ℕ → List ℕ} {i j n : ℕ} {h' : Header} {b' : List ℕ} {q : Process} {s : Stepped} → Follows hs bs i j n h' b' q s
-    → (s.answer ≡ (Ok GoesOn)) ⊎ ((a : Answer) × (s.answer ≡ Ended a (steps_up q.steps)) × Why (hs j).k (tables hs bs) i j n q a)
-stepped_says (already q' e fr x v y z) = inl (ap (λ (t : Stepped). t.answer) e)
-stepped_says (afterwards q' e fr x v y l z) = inl (ap (λ (t : Stepped). t.answer) e)
-stepped_says (answers a e fr w) = inr (a, ap (λ (t : Stepped). t.answer) e, w)
+    → (s.progress ≡ GoesOn) ⊎ ((a : Answer) × (s.progress ≡ Ended a (steps_up q.steps)) × Why (hs j).k (tables hs bs) i j n q a)
+stepped_says (already q' e fr x v y z) = inl (ap (λ (t : Stepped). t.progress) e)
+stepped_says (afterwards q' e fr x v y l z) = inl (ap (λ (t : Stepped). t.progress) e)
+stepped_says (answers a e fr w) = inr (a, ap (λ (t : Stepped). t.progress) e, w)
 
 -- a settled state, then events whose keys are words of 32 bits
 pub record Reached (s : State) (es : List Event) : Type 0 where
@@ -122,31 +120,22 @@ module _ {s : State} {es : List Event} (reached : Reached s es) where
   step_refused m n e z = go (calls.step_goes (W m) (good m).now.fit (good m).rows n)
     where
       same : (d : Refusal) → (step_in (W m) n).answer ≡ Err d → number_of e ≡ number_of d
-      same d x = ap number_of (sym (one_step d e (sym x ∙ z)))
-
-      says : (t : Stepped) → (step_in (W m) n).answer ≡ t.answer → (t.answer ≡ (Ok GoesOn)) ⊎ ((a : Answer) × (t.answer ≡ Ended a (steps_up (taken (W m) n).steps)) × Why (hs m).k S (since_at s es n m) m n (taken (W m) n) a) → ⊥
-      says t x (inl g) = let v : (Ok GoesOn) ≡ Err e = sym g ∙ sym x ∙ z in let w : ◌≡◌ {A = ℕ} 0 1 = cc in omega arith
-      says t x (inr g) =
-          let v : Ended g.0 (steps_up (taken (W m) n).steps) ≡ Err e = sym g.1 ∙ sym x ∙ z in
-          let w : ◌≡◌ {A = ℕ} 0 1 = cc in omega arith
+      same d x = ap number_of (sym (one_err d e (sym x ∙ z)))
 
       go : calls.Step (W m) (good m).now.fit (good m).rows n → NoStep (W m) n (number_of e)
       go (calls.unknown d x) = step_of_none (same NoSuchProcess (ap (λ (o : StepOut). o.answer) x)) d
       go (calls.rests u d x) = step_of_idle (same Idle (ap (λ (o : StepOut). o.answer) x)) u d
       go (calls.works u d f) =
-          let y = at_work d ((good m).each n u) in
-          absurd (says (row_of (bs m) (hs m) n (taken (W m) n)).stepped (ap (λ (o : StepOut). o.answer) (f (step_sound (good m).now (taken (W m) n) y)))
-          (stepped_says (turn (good m).now (taken (W m) n) y).follows))
+          let x = f (step_sound (good m).now (taken (W m) n) (at_work d ((good m).each n u))) in
+          absurd (ok_not _ e (sym (ap (λ (o : StepOut). o.answer) x) ∙ z))
 
-  pub start_refused : (m n operation key : ℕ) (e : Refusal) → (start_in (W m) n operation key).answer ≡ start-answers.Refused e → NoStart (W m) n operation key (number_of e)
+  pub start_refused : (m n operation key : ℕ) (e : Refusal) → (start_in (W m) n operation key).answer ≡ Err e → NoStart (W m) n operation key (number_of e)
   start_refused m n operation key e z = go (calls.start_goes (W m) (good m).now.fit (good m).rows n operation key)
     where
       go : calls.Start (W m) (good m).now.fit (good m).rows n operation key → NoStart (W m) n operation key (number_of e)
       go (calls.refused r d x) =
-          subst (λ (a : Refusal). NoStart (W m) n operation key (number_of a)) (one_start (refusal r) e (sym (ap (λ (o : StartOut). o.answer) x) ∙ z)) d
-      go (calls.accepted u a c d f x) =
-          let v : start-answers.Accepted ≡ start-answers.Refused e = sym (ap (λ (o : StartOut). o.answer) x) ∙ z in
-          let w : ◌≡◌ {A = ℕ} 0 1 = cc in absurd (omega arith)
+          subst (λ (a : Refusal). NoStart (W m) n operation key (number_of a)) (one_err (refusal r) e (sym (ap (λ (o : StartOut). o.answer) x) ∙ z)) d
+      go (calls.accepted u a c d f x) = absurd (ok_not tt e (sym (ap (λ (o : StartOut). o.answer) x) ∙ z))
 
   -- 2. Figure 3: a key in a leaf below child i of an internal node of the tree goes by child i
   pub search_order : (m n i l x : ℕ) → Reach k (S m).view n → (S m).view.tag n ≡ k → In k i → Below k (S m).view ((S m).view.child n i) l

@@ -11,7 +11,6 @@ use Rattle.tables.specs.Refusal.{refusal}
 use Rattle.tables.specs.declared.header.Header.{Header}
 use Rattle.tables.proofs.OneToOne.{tells, accepted_none}
 use Rattle.process.specs.declared.Process.{Process}
-use Rattle.process.specs.declared.Progress.TheVariants as steps
 use Rattle.process.specs.Process.{started_as}
 use Rattle.draws.specs.Draw.{new_record}
 use Rattle.points.specs.Rows.{row_of}

@@ -7,16 +7,13 @@ use mathlib.Core.List.{List}
 use lib.Dec.{eqb}
 use borrow.Author.Tests.{eq-eqb, ne_eqb}
 use Rattle.tables.specs.Choice.{both}
-use Rattle.tables.specs.declared.header.Header.{Header}
 use Rattle.tables.proofs.Picks.{both_is, both_false, false_both}
-use Rattle.process.specs.declared.Process.{Process}
-use Rattle.process.specs.declared.Stepped.{Stepped}
 use Rattle.process.specs.Process.{started_as}
 use Rattle.index.specs.Calls.{StartOut, StepOut}
 use Rattle.history.specs.View.{In}
 use Rattle.link.specs.Events.{Event, start, step, State, taken, start_in, step_in, event_at, state_at, block_at, header_at, is_accepted, starts, is_answered, stepped_by, since_at}
-use Rattle.link.proofs.Moments.{Busy, Follows, already, afterwards, answers}
-use Rattle.link.proofs.Stepping.{turn, step_sound}
+use Rattle.link.proofs.Moments.{Busy}
+use Rattle.link.proofs.Stepping.{step_sound}
 use Rattle.link.proofs.Calls as calls
 use Rattle.link.proofs.Calls.{put_back, step_refused_in, step_done_in, stepped_to, started_to}
 use Rattle.link.proofs.Reached.{Good, at_work, state_next}
@@ -32,12 +29,6 @@ pub data Outcome (s : State) (es : List Event) (m : ℕ) : Type 0 where
       → step_in (state_at s es m) n ≡ step_done_in (state_at s es m) n
       → ((p : ℕ) → starts (state_at s es m) (event_at es m) p ≡ false) → stepped_by (state_at s es m) (event_at es m) n ≡ true
       → ((p : ℕ) → p ≢ n → stepped_by (state_at s es m) (event_at es m) p ≡ false) → Outcome s es m
-
-follows_answered : {hs : ℕ → Header} {bs : ℕ → List ℕ} {i j n : ℕ} {h' : Header} {b' : List ℕ} {q : Process} {s : Stepped} → Follows hs bs i j n h' b' q s
-    → is_answered s.answer ≡ true
-follows_answered (already q' e fr x v y z) = ap (λ (t : Stepped). is_answered t.answer) e
-follows_answered (afterwards q' e fr x v y l z) = ap (λ (t : Stepped). is_answered t.answer) e
-follows_answered (answers a e fr w) = ap (λ (t : Stepped). is_answered t.answer) e
 
 module _ {s : State} {es : List Event} {m : ℕ} (good : Good s es m) where
   abbrev W : ℕ → State
@@ -58,8 +49,7 @@ module _ {s : State} {es : List Event} {m : ℕ} (good : Good s es m) where
           → step_in (W m) n ≡ step_done_in (W m) n → Outcome s es m
       done u y e =
           moved n u z y e no_start
-          (ap (λ (x : Event). stepped_by (W m) x n) z ∙ both_is (eq-eqb n n refl)
-          (ap (λ (o : StepOut). is_answered o.answer) e ∙ follows_answered (turn good.now (taken (W m) n) y).follows))
+          (ap (λ (x : Event). stepped_by (W m) x n) z ∙ both_is (eq-eqb n n refl) (ap (λ (o : StepOut). is_answered o.answer) e))
           (λ p d. ap (λ (x : Event). stepped_by (W m) x p) z ∙ ap (λ (t : Bool). both t (is_answered (step_in (W m) n).answer)) (ne_eqb n p (λ x. d (sym x))) ∙ false_both _)
 
       go : calls.Step (W m) good.now.fit good.rows n → Outcome s es m

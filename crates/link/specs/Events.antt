@@ -1,15 +1,15 @@
 -- Events: starts and steps of the processes of a row over one block, and the state at each moment of a list of them.
-use Rattle.std.specs.Prelude.{ℕ, zero, suc, ◌+◌, ◌≤◌, Bool, true, false, List, [], ◌∷◌, ltb, eqb, get_or, Result, Ok, Err}
-use Rattle.tables.specs.declared.numbers.Refusal.{Refusal}
+use Rattle.std.specs.Prelude.{ℕ, zero, suc, ◌+◌, ◌≤◌, Bool, false, List, [], ◌∷◌, ltb, eqb, get_or, Result}
+use Rattle.std.specs.Result.{is_ok}
 use Rattle.tables.specs.Choice.{pick, both}
 use Rattle.tables.specs.Numbers.{infinity}
 use Rattle.tables.specs.Header.{header_of}
 use Rattle.tables.specs.Layout.{over_front}
 use Rattle.fresh.specs.Fresh.{fresh_header, fresh_block, fresh_row}
 use Rattle.tables.specs.declared.header.Header.{Header}
+use Rattle.tables.specs.declared.numbers.Refusal.{Refusal}
 use Rattle.process.specs.declared.Process.{Process}
 use Rattle.process.specs.declared.Progress.{Progress}
-use Rattle.process.specs.declared.Progress.TheVariants.{GoesOn, Ended, Err as StepRefused}
 use Rattle.process.specs.Process.{idle}
 use Rattle.process.specs.Answer.{most_steps}
 use Rattle.index.specs.Calls.{record_of, StartOut, start_call, StepOut, step_call}
@@ -66,8 +66,7 @@ pub data AllProper : List Event → Type 0 where
 
 -- the event is an accepted start of process n
 abbrev pub is_accepted : Result (Unit {0}) Refusal → Bool
-is_accepted (Ok tt) = true
-is_accepted (Err e) = false
+is_accepted a = is_ok a
 
 abbrev pub starts : State → Event → ℕ → Bool
 starts s (start m operation key) n = both (eqb m n) (is_accepted (start_in s m operation key).answer)
@@ -80,9 +79,7 @@ since_at s es n (suc m) = pick (starts (state_at s es m) (event_at es m) n) (suc
 
 -- the event is an accepted step of process n: it goes on, or gives an answer
 abbrev pub is_answered : Result Progress Refusal → Bool
-is_answered (Ok GoesOn) = true
-is_answered (Ok (Ended a steps)) = true
-is_answered (StepRefused e) = false
+is_answered a = is_ok a
 
 abbrev pub stepped_by : State → Event → ℕ → Bool
 stepped_by s (start m operation key) n = false

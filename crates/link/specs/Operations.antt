@@ -10,7 +10,7 @@ use Rattle.link.specs.Events.{Event, start, step, State, taken, start_in, step_i
 -- event i is an accepted start of process n, of an operation and a key: it stands for the operation
 pub record Started (s : State) (es : List Event) (i n operation key : ℕ) : Type 0 where
   pub event : event_at es i ≡ start n operation key
-  pub accepted : (start_in (state_at s es i) n operation key).answer ≡ (Ok tt)
+  pub accepted : (start_in (state_at s es i) n operation key).answer ≡ Ok tt
 
 -- at moment m process n is busy, and event i was its last accepted start
 pub record BusyWith (s : State) (es : List Event) (m n i : ℕ) : Type 0 where
@@ -33,7 +33,7 @@ pub record OperationOf (s : State) (es : List Event) (r i : ℕ) : Type 0 where
 -- event m is a step of process n that answers
 pub record Answered (s : State) (es : List Event) (m n : ℕ) (a : Answer) (steps : ℕ) : Type 0 where
   pub event : event_at es m ≡ step n
-  pub answer : (step_in (state_at s es m) n).answer ≡ Ended a steps
+  pub answer : (step_in (state_at s es m) n).answer ≡ Ok (Ended a steps)
 
 -- why a step of process n is refused r: "no such process", "step on an idle process"
 pub data NoStep (s : State) (n r : ℕ) : Type 0 where
