@@ -20,7 +20,7 @@ pub struct Job {
     pub l: u32,
 }
 
-// All that a new record says: its kind, third and expected pending, and the job.
+// All that a new record says: its kind, third and expected pending, and the job. The kind is the number that its word holds (`record_image`).
 #[derive(Clone, Copy)]
 struct Record {
     kind: u32,
@@ -43,6 +43,7 @@ fn new_record(h: Header) -> u32
     u32::from(h.recordsused) + 1
 }
 
+// The number of an insert, `process::INSERT`, of a crate that this one does not stand on.
 fn puts_in(operation: u32) -> bool
     ensures { result ≡ puts_in operation }
 {

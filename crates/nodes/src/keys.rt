@@ -124,6 +124,7 @@ pub fn key_in(keys: [u32; KEY_ROOM], i: u32) -> u32
 }
 
 // "k new leaves of one key each, ascending": the leaves' key arrays, before their words go into the node table.
+// An array of key arrays by value: `sprout_of` is that list, and no heap is used.
 #[tactic(auto, unfolding(tables::specs::Choice::pick, tables::specs::Choice::listed))]
 pub fn sprout(keys: [u32; KEY_ROOM], count: u8) -> [[u32; KEY_ROOM]; KEY_ROOM]
     ensures { result ≡ sprout_of keys count }
