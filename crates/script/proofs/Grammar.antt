@@ -207,7 +207,7 @@ module _ (l : List ℕ) (x : Line) where
       let fk = field_found (bytes "k=") l k.0 k.1.0 in
       subst (λ (y : Line). InForm l y) m.is
       (making k.0.value m.p m.n m.r fk.ds m.b m.c m.d fk.numeral m.processes m.nodes m.records
-      ((rw (expect_found (bytes " ") k.0.rest s.0 s.1.0, m.stood) at fk.stood) ∙ with_k_parts fk.ds m.b m.c m.d))
+      (rw (expect_found (bytes " ") k.0.rest s.0 s.1.0, m.stood, with_k_parts fk.ds m.b m.c m.d) at fk.stood))
 
   without_k_found : making_from 0 l ≡ Some x → InForm l x
   without_k_found e =
@@ -226,7 +226,7 @@ module _ (l : List ℕ) (x : Line) where
       let fy = field_found (bytes " key=") w.0.rest y.0 y.1.0 in
       subst (λ (z : Line). InForm l z) (rw (← fw.value) end.1)
       (start p.0.value y.0.value fp.ds fw.word fy.ds fp.numeral fw.good fy.numeral
-      ((rw (fw.stood, fy.stood, end.0) at fp.stood) ∙ start_parts fp.ds fw.word fy.ds []))
+      (rw (fw.stood, fy.stood, end.0, start_parts fp.ds fw.word fy.ds []) at fp.stood))
 
   steps_found : steps_of l ≡ Some x → InForm l x
   steps_found e =
@@ -236,7 +236,7 @@ module _ (l : List ℕ) (x : Line) where
       let fp = field_found (bytes "step=") l p.0 p.1.0 in
       let ft = field_found (bytes " times=") p.0.rest t.0 t.1.0 in
       subst (λ (z : Line). InForm l z) end.1
-      (steps p.0.value t.0.value fp.ds ft.ds fp.numeral ft.numeral ((rw (ft.stood, end.0) at fp.stood) ∙ steps_parts fp.ds ft.ds [] []))
+      (steps p.0.value t.0.value fp.ds ft.ds fp.numeral ft.numeral (rw (ft.stood, end.0, steps_parts fp.ds ft.ds [] []) at fp.stood))
 
   list_found : list_of l ≡ Some x → InForm l x
   list_found e =

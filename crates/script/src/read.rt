@@ -18,7 +18,7 @@ fn literal<'a>(line: &'a [u8], word: &[u8]) -> Option<&'a [u8]>
     line.strip_prefix(word)
 }
 
-// "Numbers are decimal, of 32 bits."
+// "Numbers are decimal, of 32 bits." A value only grows with more digits, so the first that is too big decides.
 fn value_of(digits: &[u8]) -> Option<u32>
     ensures { result ≡ value_in digits.now }
 {
