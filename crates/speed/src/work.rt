@@ -74,9 +74,11 @@ fn steps(block: &mut [u32], held: [Process; 1], most: u32) -> Result<Progress, R
 {
     let mut row = held;
     for _ in 0..most {
-        match index::step(block, &mut row, 1) {
+        let answer = index::step(block, &mut row, 1);
+        match answer {
             Ok(Progress::GoesOn) => {}
-            answer => return answer,
+            Ok(Progress::Ended(_, _)) => return answer,
+            Err(_) => return answer,
         }
     }
     Ok(Progress::GoesOn)
