@@ -1,6 +1,6 @@
 -- A row that is sound is done, one that is not is refused; the row of a point; what a child read is.
 use Prim.Native.Nat.{ℕ}
-use mathlib.Core.Path.{◌≡◌, refl, sym, ◌∙◌}
+use mathlib.Core.Path.{◌≡◌, refl}
 use mathlib.Core.Bool.{Bool, true, false}
 use mathlib.Core.List.{List}
 use native.Mathlib.Omega.{arith}
@@ -13,7 +13,6 @@ use Rattle.tables.specs.declared.numbers.Refusal.{Refusal}
 use Rattle.nodes.specs.Node.{kin_of, below_of, node_good}
 use Rattle.tables.specs.declared.header.Header.{Header}
 use Rattle.nodes.specs.declared.node.Kin.{Kin}
-use Rattle.process.specs.declared.Process.{Process}
 use Rattle.process.specs.declared.Stepped.{Stepped}
 use Rattle.help.specs.Touch.{Row, out, row_done}
 use Rattle.help.specs.Reads.{kin_at}

@@ -5,7 +5,6 @@ use Rattle.tables.specs.Refusal.{refusal}
 use Rattle.tables.specs.Layout.{node_at, node_word}
 use Rattle.tables.specs.declared.header.Header.{Header}
 use Rattle.tables.specs.declared.numbers.Refusal.{Refusal}
-use Rattle.process.specs.declared.Process.{Process}
 use Rattle.process.specs.declared.Stepped.{Stepped}
 
 -- a word of a node, counted from its tag, that is read; or compared with a word and, where it is equal, swapped for another

@@ -7,7 +7,6 @@ use Rattle.tables.specs.Header.{header_of}
 use Rattle.process.specs.Process.{idle, started_as}
 use Rattle.process.specs.declared.Process.{Process}
 use Rattle.process.specs.declared.Progress.{Progress}
-use Rattle.process.specs.declared.Progress.TheVariants as steps
 use Rattle.help.specs.Touch.{Row}
 use Rattle.points.specs.Rows.{row_of}
 use Rattle.points.specs.Step.{step_reasons, start_reasons}

@@ -20,7 +20,7 @@ use Rattle.tables.specs.contracts.numbers.Refusal.number
 use Rattle.tables.specs.contracts.numbers.k_stored
 use Rattle.tables.specs.contracts.numbers.fresh_nodes
 use Rattle.tables.specs.contracts.numbers.node_words
-use Rattle.tables.specs.contracts.numbers.numbers_good
+use Rattle.tables.specs.contracts.numbers.Making.numbers_good
 use Rattle.tables.specs.contracts.words.word_at
 use Rattle.tables.specs.contracts.words.put_at
 

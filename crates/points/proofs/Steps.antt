@@ -1,14 +1,13 @@
 -- A step and a start, return by return: the row of each point, what a sound record leaves to arithmetic, and the refusals.
 use Prim.Native.Nat.{ℕ, ◌+◌, ◌*◌, ◌≤◌, ◌<◌}
 use mathlib.Core.Path.{◌≡◌, refl, sym, ap, ◌∙◌}
-use mathlib.Core.Bool.{Bool, true, false, not}
+use mathlib.Core.Bool.{Bool, true}
 use mathlib.Core.List.{List}
 use native.Mathlib.Omega.{arith}
 use lib.Dec.{ltb}
-use borrow.Author.Tests.{leb-true, lt-ltb, le-ltb, eq-eqb, ne_eqb}
+use borrow.Author.Tests.{leb-true, lt-ltb, le-ltb, ne_eqb}
 use Rattle.std.specs.Prelude.{Result, Ok, Err}
-use Rattle.tables.specs.Choice.{pick, both, within}
-use Rattle.tables.specs.Numbers.{infinity}
+use Rattle.tables.specs.Choice.{pick, both}
 use Rattle.tables.specs.Refusal.{refusal}
 use Rattle.tables.specs.Header.{header_of, header_good, header_read}
 use Rattle.nodes.specs.Pending.{word_of, pending_good}
@@ -16,9 +15,8 @@ use Rattle.tables.specs.declared.header.Header.{Header}
 use Rattle.tables.specs.declared.numbers.Refusal.{Refusal}
 use Rattle.nodes.specs.declared.pending.Pending.{Pending}
 use Rattle.nodes.specs.declared.pending.Pending.TheVariants.{Clean, Replace, Prune, Mark}
-use Rattle.tables.proofs.Picks.{both_1, both_2, both_true, pick_true, pick_false, within_high}
+use Rattle.tables.proofs.Picks.{both_1, both_2, pick_false, within_high}
 use Rattle.tables.proofs.Limits.{Limits, limits, read_header, read_limits, read_refuses, read_accepts}
-use Rattle.process.specs.Process.{started_as}
 use Rattle.process.specs.declared.Process.{Process}
 use Rattle.process.specs.declared.Stepped.{Stepped}
 use Rattle.damage.specs.Fields.{process_good, numbers_good, records_good}
@@ -29,8 +27,8 @@ use Rattle.mark.specs.Rows.{row9, row10, row11, prune_marked}
 use Rattle.help.proofs.Rowed.{row_not, at_row}
 use Rattle.flag.specs.Rows.{row4, row5, prune_flagged}
 use Rattle.points.specs.Rows.{row1, row2, row3, row_of, no_row}
-use Rattle.points.specs.Step.{step_refused, step_done, step_of, sound_step, start_of}
-use Rattle.points.specs.Parts.{Ready, step_good, start_known, start_good}
+use Rattle.points.specs.Step.{step_of, start_of}
+use Rattle.points.specs.Parts.{Ready, step_good, start_good}
 
 -- a fact of each row, at its point, is a fact of the row of the point
 module _ (P : Row → Type 0) (b : List ℕ) (h : Header) (n : ℕ) (q : Process) where

@@ -3,7 +3,6 @@ use Rattle.std.specs.Prelude.{ℕ, ◌+◌, ◌-◌, ◌^◌, Bool, true, false,
 use Rattle.std.specs.Int.Bits.{bit_or}
 use Rattle.std.specs.Int.Count.{ones}
 use Rattle.tables.specs.Choice.{pick, both}
-use Rattle.tables.specs.Refusal.{refusal}
 use Rattle.tables.specs.Layout.{tag_word}
 use Rattle.nodes.specs.Pending.{pending_of}
 use Rattle.nodes.specs.Keys.{keys_of, rises, holds, route_of}

@@ -1,6 +1,6 @@
 -- Of the proof that `node::write_node` keeps its contract.
 use mathlib.Core.Path.{◌≡◌}
-use Prim.Native.Nat.{◌≤◌, ◌-◌, ◌+◌, ◌*◌}
+use Prim.Native.Nat.{◌-◌, ◌+◌, ◌*◌}
 use lib.ListN.{length}
 use lib.Seq.{sets}
 use Rattle.tables.specs.Choice.{listed}
