@@ -7,7 +7,7 @@ ghost use Rattle.fresh.specs.Fresh.{make_out, make_of, header_image, written_fre
 
 use nodes::node;
 use tables::header::Header;
-use tables::numbers::Refusal;
+use tables::numbers::{Making, Refusal};
 use tables::{numbers, words};
 
 // "Header, 6 words: k, processes, node limit, nodes used, record limit, records used"
@@ -33,25 +33,19 @@ fn write_fresh(block: &mut [u32], h: Header)
 }
 
 // Making on a lent block: refusals 1, 2, else the fresh tree.
-pub fn make_block(
-    block: &mut [u32],
-    k: u32,
-    processes: u32,
-    nodes: u32,
-    records: u32,
-) -> Result<(), Refusal>
-    ensures { make_out result block.new ≡ make_of block.old k processes nodes records }
+pub fn make_block(block: &mut [u32], m: Making) -> Result<(), Refusal>
+    ensures { make_out result block.new ≡ make_of block.old m.k m.processes m.nodes m.records }
 {
-    let stored = numbers::k_stored(k);
-    if !numbers::numbers_good(stored, processes, nodes, records) {
+    let k = numbers::k_stored(m.k);
+    if !(Making { k, ..m }).numbers_good() {
         return Err(Refusal::MakingNumber);
     }
     let h = Header {
-        k: stored as u8,
-        processes: processes as u8,
-        nodes: nodes as u16,
-        nodesused: numbers::fresh_nodes(stored) as u16,
-        records: records as u16,
+        k: k as u8,
+        processes: m.processes as u8,
+        nodes: m.nodes as u16,
+        nodesused: numbers::fresh_nodes(k) as u16,
+        records: m.records as u16,
         recordsused: 0,
     };
     let n = h.block_words();

@@ -6,7 +6,7 @@ ghost use Rattle.make.specs.Make.{make_out, make_call};
 ghost use Rattle.index.specs.Calls.{start_out, start_call, step_out, step_call};
 
 use process::{Process, Progress};
-use tables::numbers::Refusal;
+use tables::numbers::{Making, Refusal};
 
 // What a call answers, and the row then.
 #[derive(Clone, Copy)]
@@ -18,14 +18,11 @@ pub struct Held<A, const N: usize> {
 pub fn make_held<const N: usize>(
     block: &mut [u32],
     mut row: [Process; N],
-    k: u32,
-    processes: u32,
-    nodes: u32,
-    records: u32,
+    m: Making,
 ) -> Held<Result<(), Refusal>, N>
-    ensures { make_out result.answer block.new result.row ≡ make_call block.old row.entry k processes nodes records }
+    ensures { make_out result.answer block.new result.row ≡ make_call block.old row.entry m.k m.processes m.nodes m.records }
 {
-    let answer = index::make(block, &mut row, k, processes, nodes, records);
+    let answer = index::make(block, &mut row, m);
     Held { answer, row }
 }
 

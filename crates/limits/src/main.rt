@@ -2,13 +2,14 @@
 #![tactic(auto)]
 
 use held::Held;
-use print::lines::{Making, StartLine, StepLine};
+use print::lines::{StartLine, StepLine};
 use print::write;
 use process::Process;
 use script::lines::Line;
 use session::line::{Said, Session, Turn};
 use session::{line, text};
 use tables::numbers;
+use tables::numbers::Making;
 
 const HIGHEST_KEY: u32 = numbers::INFINITY - 1;
 
@@ -53,14 +54,7 @@ impl<R: Print> Trial<'_, R> {
         };
         let n = write::write_making(&mut self.out, 0, making);
         self.show(n);
-        let Held { answer, row } = held::make_held(
-            &mut self.block,
-            self.row,
-            k,
-            PROCESSES,
-            nodes,
-            RECORDS,
-        );
+        let Held { answer, row } = held::make_held(&mut self.block, self.row, making);
         self.row = row;
         match answer {
             Ok(()) => self.write(b": made\n"),

@@ -1,7 +1,6 @@
 -- One outcome for every public function of `help`: helping, and what is shared by the points of a record being helped.
 use Rattle.outcomes.specs.Outcome.{OneOutcome}
 use Rattle.outcomes.proofs.Law.{one, codes}
-use Rattle.help.specs.contracts.damaged
 use Rattle.help.specs.contracts.seen_good
 use Rattle.help.specs.contracts.top_of
 use Rattle.help.specs.contracts.helping
@@ -13,9 +12,6 @@ use Rattle.help.specs.contracts.helped_l
 use Rattle.help.specs.contracts.helped_p
 use Rattle.help.specs.contracts.helped_third
 use Rattle.help.specs.contracts.clear_flag
-
-pub damaged_one : OneOutcome damaged.ended (λ M 𝓤. damaged.clauses {𝓤 = 𝓤})
-damaged_one w κs a o o' = one damaged.ended κs a (search codes depth 9) (λ x. (x, o.1))
 
 pub seen_good_one : OneOutcome seen_good.ended (λ M 𝓤. seen_good.clauses {𝓤 = 𝓤})
 seen_good_one w κs a o o' = one seen_good.ended κs a (search codes depth 9) (λ x. (x, o.1))

@@ -13,13 +13,12 @@ use Rattle.nodes.specs.contracts.keys.sprout
 use Rattle.nodes.specs.contracts.node.kin_of
 use Rattle.nodes.specs.contracts.node.below_of
 use Rattle.nodes.specs.contracts.node.child_of
-use Rattle.nodes.specs.contracts.node.is_node
 use Rattle.nodes.specs.contracts.node.is_internal
 use Rattle.nodes.specs.contracts.node.is_leaf
 use Rattle.nodes.specs.contracts.node.write_leaf
 use Rattle.nodes.specs.contracts.node.write_internal
-use Rattle.nodes.specs.contracts.pending.pending_of
-use Rattle.nodes.specs.contracts.pending.word_of
+use Rattle.nodes.specs.contracts.pending.PendingFromU32.from as pending_of
+use Rattle.nodes.specs.contracts.pending.U64FromPending.from as word_of
 use Rattle.nodes.specs.contracts.pending.record_in_use
 use Rattle.nodes.specs.contracts.pending.record_of_kind
 use Rattle.nodes.specs.contracts.pending.pending_good
@@ -59,9 +58,6 @@ below_of_one w κs a o o' = one below_of.ended κs a (search codes depth 9) (λ 
 
 pub child_of_one : OneOutcome child_of.ended (λ M 𝓤. child_of.clauses {𝓤 = 𝓤})
 child_of_one w κs a o o' = one child_of.ended κs a (search codes depth 9) (λ x. (x, o.1))
-
-pub is_node_one : OneOutcome is_node.ended (λ M 𝓤. is_node.clauses {𝓤 = 𝓤})
-is_node_one w κs a o o' = one is_node.ended κs a (search codes depth 9) (λ x. (x, o.1))
 
 pub is_internal_one : OneOutcome is_internal.ended (λ M 𝓤. is_internal.clauses {𝓤 = 𝓤})
 is_internal_one w κs a o o' = one is_internal.ended κs a (search codes depth 9) (λ x. (x, o.1))

@@ -1,36 +1,35 @@
 -- One outcome for every public function of `process`: the process record by value.
 use Rattle.outcomes.specs.Outcome.{OneOutcome}
 use Rattle.outcomes.proofs.Law.{one, codes}
-use Rattle.process.specs.contracts.number_of
-use Rattle.process.specs.contracts.idle_record
-use Rattle.process.specs.contracts.started_as
-use Rattle.process.specs.contracts.restarted
-use Rattle.process.specs.contracts.with_point
-use Rattle.process.specs.contracts.with_pseen
-use Rattle.process.specs.contracts.descended
-use Rattle.process.specs.contracts.with_l
-use Rattle.process.specs.contracts.with_index
-use Rattle.process.specs.contracts.with_mask
-use Rattle.process.specs.contracts.with_other
-use Rattle.process.specs.contracts.with_depth
-use Rattle.process.specs.contracts.to_three
-use Rattle.process.specs.contracts.to_twelve
-use Rattle.process.specs.contracts.to_six
-use Rattle.process.specs.contracts.to_nine
-use Rattle.process.specs.contracts.to_ten
-use Rattle.process.specs.contracts.to_eleven
-use Rattle.process.specs.contracts.with_own
+use Rattle.process.specs.contracts.Answer.number
+use Rattle.process.specs.contracts.Process.idle
+use Rattle.process.specs.contracts.Process.started_as
+use Rattle.process.specs.contracts.Process.restarted
+use Rattle.process.specs.contracts.Process.with_point
+use Rattle.process.specs.contracts.Process.with_pseen
+use Rattle.process.specs.contracts.Process.descended
+use Rattle.process.specs.contracts.Process.with_l
+use Rattle.process.specs.contracts.Process.with_index
+use Rattle.process.specs.contracts.Process.with_mask
+use Rattle.process.specs.contracts.Process.with_other
+use Rattle.process.specs.contracts.Process.with_depth
+use Rattle.process.specs.contracts.Process.to_three
+use Rattle.process.specs.contracts.Process.to_twelve
+use Rattle.process.specs.contracts.Process.to_six
+use Rattle.process.specs.contracts.Process.to_nine
+use Rattle.process.specs.contracts.Process.to_ten
+use Rattle.process.specs.contracts.Process.to_eleven
+use Rattle.process.specs.contracts.Process.with_own
 use Rattle.process.specs.contracts.steps_up
-use Rattle.process.specs.contracts.goes_on
-use Rattle.process.specs.contracts.ends
-use Rattle.process.specs.contracts.refused
+use Rattle.process.specs.contracts.Process.goes_on
+use Rattle.process.specs.contracts.Process.ends
 use Rattle.process.specs.contracts.is_clean
 
-pub number_of_one : OneOutcome number_of.ended (λ M 𝓤. number_of.clauses {𝓤 = 𝓤})
-number_of_one w κs a o o' = one number_of.ended κs a (search codes depth 9) (λ x. (x, o.1))
+pub number_of_one : OneOutcome number.ended (λ M 𝓤. number.clauses {𝓤 = 𝓤})
+number_of_one w κs a o o' = one number.ended κs a (search codes depth 9) (λ x. (x, o.1))
 
-pub idle_record_one : OneOutcome idle_record.ended (λ M 𝓤. idle_record.clauses {𝓤 = 𝓤})
-idle_record_one w κs a o o' = one idle_record.ended κs a (search codes depth 9) (λ x. (x, o.1))
+pub idle_record_one : OneOutcome idle.ended (λ M 𝓤. idle.clauses {𝓤 = 𝓤})
+idle_record_one w κs a o o' = one idle.ended κs a (search codes depth 9) (λ x. (x, o.1))
 
 pub started_as_one : OneOutcome started_as.ended (λ M 𝓤. started_as.clauses {𝓤 = 𝓤})
 started_as_one w κs a o o' = one started_as.ended κs a (search codes depth 9) (λ x. (x, o.1))
@@ -91,9 +90,6 @@ goes_on_one w κs a o o' = one goes_on.ended κs a (search codes depth 9) (λ x.
 
 pub ends_one : OneOutcome ends.ended (λ M 𝓤. ends.clauses {𝓤 = 𝓤})
 ends_one w κs a o o' = one ends.ended κs a (search codes depth 9) (λ x. (x, o.1))
-
-pub refused_one : OneOutcome refused.ended (λ M 𝓤. refused.clauses {𝓤 = 𝓤})
-refused_one w κs a o o' = one refused.ended κs a (search codes depth 9) (λ x. (x, o.1))
 
 pub is_clean_one : OneOutcome is_clean.ended (λ M 𝓤. is_clean.clauses {𝓤 = 𝓤})
 is_clean_one w κs a o o' = one is_clean.ended κs a (search codes depth 9) (λ x. (x, o.1))

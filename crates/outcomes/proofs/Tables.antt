@@ -1,53 +1,28 @@
 -- One outcome for every public function of `tables`: the block.
 use Rattle.outcomes.specs.Outcome.{OneOutcome}
 use Rattle.outcomes.proofs.Law.{one, codes}
-use Rattle.tables.specs.contracts.choice.and
-use Rattle.tables.specs.contracts.choice.or
-use Rattle.tables.specs.contracts.choice.at_most
-use Rattle.tables.specs.contracts.choice.below
-use Rattle.tables.specs.contracts.choice.same
-use Rattle.tables.specs.contracts.choice.within
-use Rattle.tables.specs.contracts.header.depth
-use Rattle.tables.specs.contracts.header.node_at
-use Rattle.tables.specs.contracts.header.child_at
-use Rattle.tables.specs.contracts.header.pending_at
-use Rattle.tables.specs.contracts.header.block_words
-use Rattle.tables.specs.contracts.header.record_at
-use Rattle.tables.specs.contracts.header.stack_at
-use Rattle.tables.specs.contracts.header.node_word
-use Rattle.tables.specs.contracts.header.tag_word
-use Rattle.tables.specs.contracts.header.key_word
-use Rattle.tables.specs.contracts.header.child_word
-use Rattle.tables.specs.contracts.header.pending_word
-use Rattle.tables.specs.contracts.header.record_word
-use Rattle.tables.specs.contracts.header.stack_word
+use Rattle.tables.specs.contracts.header.Header.depth
+use Rattle.tables.specs.contracts.header.Header.node_at
+use Rattle.tables.specs.contracts.header.Header.child_at
+use Rattle.tables.specs.contracts.header.Header.pending_at
+use Rattle.tables.specs.contracts.header.Header.block_words
+use Rattle.tables.specs.contracts.header.Header.record_at
+use Rattle.tables.specs.contracts.header.Header.stack_at
+use Rattle.tables.specs.contracts.header.Header.node_word
+use Rattle.tables.specs.contracts.header.Header.tag_word
+use Rattle.tables.specs.contracts.header.Header.key_word
+use Rattle.tables.specs.contracts.header.Header.child_word
+use Rattle.tables.specs.contracts.header.Header.pending_word
+use Rattle.tables.specs.contracts.header.Header.record_word
+use Rattle.tables.specs.contracts.header.Header.stack_word
 use Rattle.tables.specs.contracts.header.read_header
-use Rattle.tables.specs.contracts.numbers.number_of
+use Rattle.tables.specs.contracts.numbers.Refusal.number
 use Rattle.tables.specs.contracts.numbers.k_stored
 use Rattle.tables.specs.contracts.numbers.fresh_nodes
 use Rattle.tables.specs.contracts.numbers.node_words
 use Rattle.tables.specs.contracts.numbers.numbers_good
 use Rattle.tables.specs.contracts.words.word_at
 use Rattle.tables.specs.contracts.words.put_at
-use Rattle.tables.specs.contracts.words.prev
-
-pub and_one : OneOutcome and.ended (λ M 𝓤. and.clauses {𝓤 = 𝓤})
-and_one w κs a o o' = one and.ended κs a (search codes depth 9) (λ x. (x, o.1))
-
-pub or_one : OneOutcome or.ended (λ M 𝓤. or.clauses {𝓤 = 𝓤})
-or_one w κs a o o' = one or.ended κs a (search codes depth 9) (λ x. (x, o.1))
-
-pub at_most_one : OneOutcome at_most.ended (λ M 𝓤. at_most.clauses {𝓤 = 𝓤})
-at_most_one w κs a o o' = one at_most.ended κs a (search codes depth 9) (λ x. (x, o.1))
-
-pub below_one : OneOutcome below.ended (λ M 𝓤. below.clauses {𝓤 = 𝓤})
-below_one w κs a o o' = one below.ended κs a (search codes depth 9) (λ x. (x, o.1))
-
-pub same_one : OneOutcome same.ended (λ M 𝓤. same.clauses {𝓤 = 𝓤})
-same_one w κs a o o' = one same.ended κs a (search codes depth 9) (λ x. (x, o.1))
-
-pub within_one : OneOutcome within.ended (λ M 𝓤. within.clauses {𝓤 = 𝓤})
-within_one w κs a o o' = one within.ended κs a (search codes depth 9) (λ x. (x, o.1))
 
 pub depth_one : OneOutcome depth.ended (λ M 𝓤. depth.clauses {𝓤 = 𝓤})
 depth_one w κs a o o' = one depth.ended κs a (search codes depth 9) (λ x. (x, o.1))
@@ -94,8 +69,8 @@ stack_word_one w κs a o o' = one stack_word.ended κs a (search codes depth 9) 
 pub read_header_one : OneOutcome read_header.ended (λ M 𝓤. read_header.clauses {𝓤 = 𝓤})
 read_header_one w κs a o o' = one read_header.ended κs a (search codes depth 9) (λ x. (x, o.1))
 
-pub number_of_one : OneOutcome number_of.ended (λ M 𝓤. number_of.clauses {𝓤 = 𝓤})
-number_of_one w κs a o o' = one number_of.ended κs a (search codes depth 9) (λ x. (x, o.1))
+pub number_of_one : OneOutcome number.ended (λ M 𝓤. number.clauses {𝓤 = 𝓤})
+number_of_one w κs a o o' = one number.ended κs a (search codes depth 9) (λ x. (x, o.1))
 
 pub k_stored_one : OneOutcome k_stored.ended (λ M 𝓤. k_stored.clauses {𝓤 = 𝓤})
 k_stored_one w κs a o o' = one k_stored.ended κs a (search codes depth 9) (λ x. (x, o.1))
@@ -114,6 +89,3 @@ word_at_one w κs a o o' = one word_at.ended κs a (search codes depth 9) (λ x.
 
 pub put_at_one : OneOutcome put_at.ended (λ M 𝓤. put_at.clauses {𝓤 = 𝓤})
 put_at_one w κs a o o' = one put_at.ended κs a (search codes depth 9) (λ x. (o.0, (x, o.1.1)))
-
-pub prev_one : OneOutcome prev.ended (λ M 𝓤. prev.clauses {𝓤 = 𝓤})
-prev_one w κs a o o' = one prev.ended κs a (search codes depth 9) (λ x. (x, o.1))

@@ -19,7 +19,7 @@ pub record Model : Type 2 where
   pub run : Routine → Fun 𝓤
 
 module _ (T : Ended) (c : (M : Type 1) (𝓤 : Ura M) (𝓛 : Logic 𝓤) → (Memory → SProp 𝓤) → (Routine → Fun 𝓤) → Clauses 𝓤 T) where
-  -- the outcome of a call with the arguments a: its result, and the last value of each slice that it was lent to write (nothing else that it is handed can change)
+  -- the outcome of a call with the arguments a: its result, and the last value of all that it was lent to write, slices or a pass (nothing else that it is handed can change)
   abbrev pub Outcome : (κs : Lfts T.signature.lifetimes) → Args T.signature κs → Type 0
   Outcome κs a = Res T.signature κs × Lasts T κs a
 

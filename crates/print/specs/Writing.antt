@@ -2,7 +2,7 @@
 use Rattle.std.specs.Prelude.{ℕ, ◌≡◌, ◌+◌, List, [], ◌∷◌, ◌++◌, ltb, eqb, length, set}
 use Rattle.tables.specs.Choice.{pick}
 use Rattle.print.specs.Text.{bytes, newline, decimal}
-use Rattle.print.specs.declared.lines.Making.{Making}
+use Rattle.tables.specs.declared.numbers.Making.{Making}
 use Rattle.print.specs.declared.lines.StartLine.{StartLine}
 use Rattle.print.specs.declared.lines.StepLine.{StepLine}
 use Rattle.print.specs.declared.lines.AnswerLine.{AnswerLine}

@@ -1,12 +1,4 @@
 // What stands in a line: in one of the script, and in one of the bench's answer. Numbers are those of document 01.
-#[derive(Clone, Copy)]
-pub struct Making {
-    pub k: u32,
-    pub processes: u32,
-    pub nodes: u32,
-    pub records: u32,
-}
-
 // The operation is 1 find, 2 insert, 3 delete, and 0 where the word is none of these: the call then refuses it.
 #[derive(Clone, Copy)]
 pub struct StartLine {

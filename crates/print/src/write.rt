@@ -5,7 +5,8 @@ ghost use Rattle.print.specs.Writing.{out, written, Puts, named, op_field, answe
 ghost use Rattle.print.specs.Writing.{op_word as word_of_op, answer_word as word_of_answer};
 ghost use Rattle.print.specs.Writing.{plain_making_text, making_text, start_text, steps_text, list_text};
 
-use crate::lines::{AnswerLine, CountLine, Making, StartLine, StepLine};
+use crate::lines::{AnswerLine, CountLine, StartLine, StepLine};
+use tables::numbers::Making;
 
 pub fn put_bytes(buffer: &mut [u8], at: usize, text: &[u8]) -> usize
     ensures { out result buffer.new ≡ written buffer.old at text.now }

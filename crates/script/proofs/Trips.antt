@@ -15,7 +15,7 @@ use Rattle.script.specs.Reading.{most, op_of, expect, ended, longest, line_of}
 use Rattle.script.specs.Form.{Word, none, also, making, making_without_k, start, steps, list}
 use Rattle.print.specs.Writing.{named, op_word, op_field, answer_word, answer_field, answer_line, refused_line, count_line, key_line}
 use Rattle.print.specs.Writing.{plain_making_text, making_text, start_text, steps_text, list_text, Out, out, written}
-use Rattle.print.specs.declared.lines.Making.{Making}
+use Rattle.tables.specs.declared.numbers.Making.{Making}
 use Rattle.print.specs.declared.lines.StartLine.{StartLine}
 use Rattle.print.specs.declared.lines.StepLine.{StepLine}
 use Rattle.print.specs.declared.lines.AnswerLine.{AnswerLine}

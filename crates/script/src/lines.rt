@@ -1,5 +1,6 @@
 // What a line of the script asks for.
-use print::lines::{Making, StartLine, StepLine};
+use print::lines::{StartLine, StepLine};
+use tables::numbers::Making;
 
 #[derive(Clone, Copy)]
 pub enum Line {

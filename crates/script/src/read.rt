@@ -7,7 +7,8 @@ ghost use Rattle.script.specs.Reading.{op_of as op_of_word};
 ghost use Rattle.script.specs.Position.{found_in, value_in};
 
 use crate::lines::Line;
-use print::lines::{Making, StartLine, StepLine};
+use print::lines::{StartLine, StepLine};
+use tables::numbers::Making;
 
 // A longer line is not in its form.
 pub const LONGEST: usize = 4096;

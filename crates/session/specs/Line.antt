@@ -14,7 +14,7 @@ use Rattle.index.specs.Calls.{record_of, start_call, step_call, StepOut, step_ou
 use Rattle.walk.specs.Calls.{list_of}
 use Rattle.script.specs.declared.lines.Line.{Line}
 use Rattle.script.specs.declared.lines.Line.TheVariants as line
-use Rattle.print.specs.declared.lines.Making.{Making}
+use Rattle.tables.specs.declared.numbers.Making.{Making}
 use Rattle.print.specs.declared.lines.StartLine.{StartLine}
 use Rattle.print.specs.declared.lines.StepLine.{StepLine}
 use Rattle.session.specs.declared.line.Stage.{Stage}

@@ -6,10 +6,10 @@ ghost use Rattle.session.specs.declared.line.Said.TheVariants.{Refused};
 ghost use Rattle.session.specs.declared.line.Stage.TheVariants.{Ended, Made as MadeStage};
 
 use held::Held;
-use print::lines::{AnswerLine, CountLine, Making, StartLine, StepLine};
+use print::lines::{AnswerLine, CountLine, StartLine, StepLine};
 use process::{Process, Progress};
 use script::lines::Line;
-use tables::numbers::Refusal;
+use tables::numbers::{Making, Refusal};
 use tables::words;
 
 // "Bench program: at most 8 processes, 512 nodes, 512 records .. more is refused 1."
@@ -90,7 +90,7 @@ fn making(block: &mut [u32], row: [Process; 32], m: Making) -> Turn
     if !within_bench(m) {
         return ended(Refusal::MakingNumber, row);
     }
-    let made = held::make_held(block, row, m.k, m.processes, m.nodes, m.records);
+    let made = held::make_held(block, row, m);
     match made.answer {
         Ok(()) => saying(Said::Nothing, Stage::Made, made.row),
         Err(e) => ended(e, made.row),

@@ -5,7 +5,7 @@ ghost use Rattle.speed.specs.Operation.{ending_of, operate_out, operate_of};
 ghost use Rattle.speed.specs.Work.{key_of, is_over, mixed_of, tallied_of, nothing_yet, period_of, asked_of, change_of, turn_of, done_out, done_from, fresh_of, round_out, round_of, rounds_from};
 
 use process::{Answer, Process, Progress};
-use tables::numbers::Refusal;
+use tables::numbers::{Making, Refusal};
 
 // More steps than any operation of a process alone takes.
 const MOST_STEPS: u32 = 1000000;
@@ -74,9 +74,11 @@ fn steps(block: &mut [u32], held: [Process; 1], most: u32) -> Result<Progress, R
 {
     let mut row = held;
     for _ in 0..most {
-        match index::step(block, &mut row, 1) {
+        let answer = index::step(block, &mut row, 1);
+        match answer {
             Ok(Progress::GoesOn) => {}
-            answer => return answer,
+            Ok(Progress::Ended(_, _)) => return answer,
+            Err(_) => return answer,
         }
     }
     Ok(Progress::GoesOn)
@@ -203,7 +205,13 @@ fn perform(block: &mut [u32], part: Part, number: u32, tally: &mut Tally) -> u32
 fn fresh(block: &mut [u32], w: Work)
     ensures { block.new ≡ fresh_of w block.old }
 {
-    held::make_held(block, [Process::idle(); 32], w.k, 1, w.nodes, w.records);
+    let m = Making {
+        k: w.k,
+        processes: 1,
+        nodes: w.nodes,
+        records: w.records,
+    };
+    held::make_held(block, [Process::idle(); 32], m);
 }
 
 // A tree, and all that is to be done on it.

@@ -4,7 +4,7 @@ ghost use Rattle.tables.specs.Numbers.{header_words, node_words};
 ghost use Rattle.tables.specs.Layout.{depth_of, block_words, records_from, stacks_from, node_at, record_at, stack_at, node_word, tag_word, key_word, child_word, pending_word, record_word, stack_word, child_place, pending_place};
 ghost use Rattle.tables.specs.Header.{header_read, header_good, header_from};
 
-use crate::numbers::Refusal;
+use crate::numbers::{Making, Refusal};
 use crate::{numbers, words};
 
 // Fields as narrow as their limits allow: every address then fits 64 bits, whatever they hold.
@@ -145,20 +145,13 @@ impl Header {
 
 // The six words are within their limits.
 #[tactic(auto, unfolding(crate::specs::Choice::both, crate::specs::Header::header_good))]
-fn header_good(
-    k: u32,
-    processes: u32,
-    nodes: u32,
-    nodesused: u32,
-    records: u32,
-    recordsused: u32,
-) -> bool
-    ensures { result ≡ header_good (header_from k processes nodes nodesused records recordsused) }
+fn header_good(m: Making, nodesused: u32, recordsused: u32) -> bool
+    ensures { result ≡ header_good (header_from m.k m.processes m.nodes nodesused m.records recordsused) }
 {
-    numbers::numbers_good(k, processes, nodes, records)
-        && numbers::fresh_nodes(k) <= u64::from(nodesused)
-        && nodesused <= nodes
-        && recordsused <= records
+    m.numbers_good()
+        && numbers::fresh_nodes(m.k) <= u64::from(nodesused)
+        && nodesused <= m.nodes
+        && recordsused <= m.records
 }
 
 // Refusals 2, 3, 2 of the block, in document 01's order.
@@ -168,7 +161,13 @@ pub fn read_header(block: &[u32]) -> Result<Header, Refusal>
     let [k, processes, nodes, nodesused, records, recordsused, ..] = *block else {
         return Err(Refusal::TooShort);
     };
-    if !header_good(k, processes, nodes, nodesused, records, recordsused) {
+    let m = Making {
+        k,
+        processes,
+        nodes,
+        records,
+    };
+    if !header_good(m, nodesused, recordsused) {
         return Err(Refusal::Damaged);
     }
     let h = Header {

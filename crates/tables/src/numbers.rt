@@ -65,13 +65,24 @@ pub fn node_words(k: u8) -> u64
     2 * u64::from(k) + 1
 }
 
-#[tactic(auto, unfolding(crate::specs::Choice::both, crate::specs::Numbers::numbers_good))]
-pub fn numbers_good(k: u32, processes: u32, nodes: u32, records: u32) -> bool
-    ensures { result ≡ numbers_good k processes nodes records }
-{
-    (LOWEST_K..=HIGHEST_K).contains(&k)
-        && (1..=MOST_PROCESSES).contains(&processes)
-        && fresh_nodes(k) <= u64::from(nodes)
-        && nodes <= MOST_NODES
-        && (1..=MOST_RECORDS).contains(&records)
+// The numbers that a making is given.
+#[derive(Clone, Copy, Debug, PartialEq, Eq)]
+pub struct Making {
+    pub k: u32,
+    pub processes: u32,
+    pub nodes: u32,
+    pub records: u32,
+}
+
+impl Making {
+    #[tactic(auto, unfolding(crate::specs::Choice::both, crate::specs::Numbers::numbers_good))]
+    pub fn numbers_good(self) -> bool
+        ensures { result ≡ numbers_good self.k self.processes self.nodes self.records }
+    {
+        (LOWEST_K..=HIGHEST_K).contains(&self.k)
+            && (1..=MOST_PROCESSES).contains(&self.processes)
+            && fresh_nodes(self.k) <= u64::from(self.nodes)
+            && self.nodes <= MOST_NODES
+            && (1..=MOST_RECORDS).contains(&self.records)
+    }
 }
