@@ -54,13 +54,15 @@ in_source() { # FUNCTION LOG
 
 # What the check says of a function that is refused for its own sake.
 said() { # FUNCTION LOG
-    local line path=${1#*::}
+    local line path=${1#*::} folder
+    folder=/${path//:://}
+    folder=${folder%/*}/'\+?'${folder##*/} # (that of a function that calls itself begins with +)
     line=$(grep -m 1 "^fn $1: " "$2") || true
     case $line in
     *': proved') echo 'NOT REFUSED' ;;
     *'it calls'*) echo 'NOT TRIED: a callee is refused' ;;
     *': not proved'* | *': no proof'*)
-        line=$(grep -E "^(\./)?proofs/${path//:://}/(Answers|Invariants|Proof)\.antt:[0-9:]+ error: " "$2" | sed 1q) || true
+        line=$(grep -E "^(\./)?proofs$folder/(Answers|Invariants|Proof)\.antt:[0-9:]+ error: " "$2" | sed 1q) || true
         # (an answer to a goal that has another name now shows nothing)
         case $line in *'that can be named'*) echo 'NOT TRIED: a goal has another name'; return ;; esac
         [ -n "$line" ] || line=$(in_source "$1" "$2")
