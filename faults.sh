@@ -43,7 +43,7 @@ copy() { # FROM TO
     done
 }
 
-# Sets the code of a crate aside, functions with the attributes before them; its types and definitions stay.
+# Sets the code of a crate aside, functions with the attributes before them; its types and definitions stay, and what a type's ghost field names.
 without_code() { # FOLDER CRATE
     local file
     find "$1/crates/$2/src" -name '*.rt' | while read -r file; do
@@ -52,23 +52,25 @@ without_code() { # FOLDER CRATE
             open { held = held $0 "\n"; if (/\]$/) open = 0; next }
             /^(pub )?fn / { skip = 1; held = "" }
             skip { if (/^}/) skip = 0; next }
-            /^ghost use / { next }
+            /^ghost use / && !/Prelude/ { next }
             { printf "%s", held; held = ""; print }' "$file" > "$room/cut"
         cp "$room/cut" "$file"
     done
-    find "$1/crates/$2/proofs" -mindepth 1 -maxdepth 1 -type d -exec rm -r {} +
+    if [ -d "$1/crates/$2/proofs" ]; then find "$1/crates/$2/proofs" -mindepth 1 -maxdepth 1 -type d -exec rm -r {} +; fi
 }
 
-# The laws of a crate that some files cite, under the name that the crate itself or another has for them.
+# The laws of a crate that some files cite, under the name that the crate itself or another has for them, in a proof or in an attribute of the code.
 laws_in() { # CRATE FILE-OR-FOLDER ..
     local crate=$1
     shift
-    { grep -rhoE "Rattle\.$crate\.proofs\.[A-Z][A-Za-z]*" "$@" || true; } | sed 's/.*\.//' | sort -u
+    { grep -rHoE "(Rattle\.$crate\.proofs\.|\b($crate|crate)::proofs::)[A-Z][A-Za-z]*" "$@" || true; } |
+        awk -v own="/crates/$crate/src/" '!/:crate::proofs::/ || index($0, own) { sub(/.*[.:]/, ""); print }' | sort -u
 }
 
 # Sets the laws of a crate aside that neither its functions' proofs nor the crates above it cite, but for its computed examples.
 without_uncited() { # FOLDER CRATE
     local proofs="$1/crates/$2/proofs" cited='' more law
+    [ -d "$proofs" ] || return 0
     mapfile -t citing < <(find "$1/crates" -path "$proofs/*.antt" ! -path "$proofs/*/*" -o \( -name '*.antt' -o -name '*.rt' \) -print)
     more=$(laws_in "$2" "${citing[@]}")
     while [ "$more" != "$cited" ]; do

@@ -13,11 +13,10 @@ for crate in crates/*; do
     for part in src specs proofs; do [ ! -d "$crate/$part" ] || cp -r "$crate/$part" "$room/$crate/"; done
 done
 
-source_of() { # FUNCTION: its file below crates/
-    case $1 in
-    *::*::*) local rest=${1#*::}; echo "${1%%::*}/src/${rest%%::*}.rt" ;;
-    *) echo "${1%%::*}/src/lib.rt" ;;
-    esac
+source_of() { # FUNCTION: its file below crates/, lib.rt or the module's; a method's path names the type before it
+    local rest=${1#*::}
+    rest=${rest%%::*}
+    if [ -f "$room/crates/${1%%::*}/src/$rest.rt" ]; then echo "${1%%::*}/src/$rest.rt"; else echo "${1%%::*}/src/lib.rt"; fi
 }
 
 change() { # FUNCTION OLD NEW
@@ -28,24 +27,42 @@ change() { # FUNCTION OLD NEW
     printf '%s\n' "${text/"$old"/"$new"}" > "$file"
 }
 
+# The lines of a function, from the attributes above it on. A method's impl is found by the type before its name, as the check names it:
+# `Header` for `impl Header`, `PendingFromU32` for `impl From<u32> for Pending`, and `Pass` for `trait Pass`.
+lines_of() { # FUNCTION FILE: the first and the last
+    awk -v name="${1##*::}" -v path="$1" '
+        function big(word) { return toupper(substr(word, 1, 1)) substr(word, 2) }
+        /^(impl|(pub )?trait) / {
+            type = $0; sub(/^(pub )?(impl|trait) /, "", type); sub(/ \{$/, "", type)
+            if (match(type, / for /)) { of = substr(type, RSTART + 5); by = substr(type, 1, RSTART - 1); split(by, part, /[<>]/); type = big(of) part[1] big(part[2]) }
+            sub(/<.*/, "", type)
+        }
+        /^}/ { type = "" }
+        /^ *#\[/ { if (!held) held = NR; next }
+        $0 ~ "^ *(pub |final )*fn " name "[^A-Za-z0-9_]" && (type == "" && path ~ "(^|::)[a-z_]*::" name "$" || type != "" && path ~ "::" type "::" name "$") { from = held ? held : NR; end = type == "" ? "^}" : "^    }" }
+        { held = 0 }
+        from && $0 ~ end { print from, NR; exit }' "$2"
+}
+
 # The first goal of a function that the check could not prove by itself: its line stands in the function.
 in_source() { # FUNCTION LOG
     local file from to
     file=$(source_of "$1") file=${file#*/}
-    from=$(grep -nE "^(pub )?fn ${1##*::}\b" "$room/crates/${1%%::*}/$file" | cut -d: -f1)
-    to=$(awk -v from="$from" 'NR > from && /^}/ { print NR; exit }' "$room/crates/${1%%::*}/$file")
+    read -r from to < <(lines_of "$1" "$room/crates/${1%%::*}/$file")
     awk -v head="note: $file:" -v from="$from" -v to="$to" 'index($0, head) == 1 { split(substr($0, length(head) + 1), at, ":"); if (at[1] >= from && at[1] <= to) { print; exit } }' "$2"
 }
 
 # What the check says of a function that is refused for its own sake.
 said() { # FUNCTION LOG
-    local line path=${1#*::}
+    local line path=${1#*::} folder
+    folder=/${path//:://}
+    folder=${folder%/*}/'\+?'${folder##*/} # (that of a function that calls itself begins with +)
     line=$(grep -m 1 "^fn $1: " "$2") || true
     case $line in
     *': proved') echo 'NOT REFUSED' ;;
     *'it calls'*) echo 'NOT TRIED: a callee is refused' ;;
     *': not proved'* | *': no proof'*)
-        line=$(grep -E "^(\./)?proofs/${path//:://}/(Answers|Invariants|Proof)\.antt:[0-9:]+ error: " "$2" | sed 1q) || true
+        line=$(grep -E "^(\./)?proofs$folder/(Answers|Invariants|Proof)\.antt:[0-9:]+ error: " "$2" | sed 1q) || true
         # (an answer to a goal that has another name now shows nothing)
         case $line in *'that can be named'*) echo 'NOT TRIED: a goal has another name'; return ;; esac
         [ -n "$line" ] || line=$(in_source "$1" "$2")
