@@ -51,6 +51,7 @@ impl Bench {
 
     // A piece of the input: each line that ends in it is taken, and the start of the next is held.
     fn take_piece(&mut self, rt: &impl Print, piece: &[u8]) {
+        // The cut is what `line_end` promises, so the loop goes by what it answers.
         let mut at = 0;
         while at < piece.len() {
             let end = cut::line_end(piece, at);

@@ -10,6 +10,3 @@ use borrow.Author.Tests.{lt-ltb}
 module _ (k mask : ℕ) where
   pub mask_all : mask < 4294967296 → 32 ≤ k → true ≡ ltb mask (2 ^ k)
   mask_all p q = sym (lt-ltb mask (2 ^ k) (lt_of_lt_of_le p (pow_mono {i = 32} q)))
-
-  pub mask_is : k < 32 → ltb mask (1 * 2 ^ k % 4294967296) ≡ ltb mask (2 ^ k)
-  mask_is p = ap (λ (m : ℕ). ltb mask m) (rw one-mul (mod-eq_of_lt (pow-lt {j = 32} p)))

@@ -42,6 +42,7 @@ fn numbers_good(h: Header, q: Process) -> bool
         && q.depth <= u32::from(h.depth())
 }
 
+// Three tests of one line each: with a closure for the test each would be longer than it is.
 // "gp internal"; 0 as long as the search has not gone down once.
 fn no_or_internal(block: &[u32], h: Header, node: u32) -> bool
     ensures { result ≡ zero_or node (is_internal (kin_of block.now h node)) }

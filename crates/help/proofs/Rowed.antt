@@ -26,13 +26,6 @@ module _ (b : List ℕ) (row : Row) where
   unfolding row_done pick
   row_not f = cc
 
--- a row of two tests, the second of which is left to what follows
-pub row_rest : (b : List ℕ) (row : Row) (s : Result Stepped Refusal) (t u : Bool) → row.sound ≡ both t u → t ≡ true → row.block ≡ b →
-    s ≡ pick u (Ok row.stepped) (Err (refusal 3)) → out s b ≡ row_done b row
-unfolding row_done pick both
-row_rest b row s t true e f g i = cc
-row_rest b row s t false e f g i = cc
-
 -- a fact of each row, at its point, is a fact of the row of the point
 module _ (P : Row → Type 0) where
   pub at_row : (x n : ℕ) (r s : Row) → (x ≡ n → P r) → P s → P (pick (eqb x n) r s)

@@ -80,6 +80,7 @@ pub fn non_empty(kin: Kin) -> bool
     }
 }
 
+// One function of the field's number would be `record_word` once more.
 // Of the record being helped: l, p, and the third, which is the new child or gp.
 pub fn helped_l(block: &[u32], h: Header, q: Process) -> u32
     ensures { result ≡ helped_l block.now h q }

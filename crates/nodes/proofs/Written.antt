@@ -74,20 +74,10 @@ module _ (b : List ℕ) (h : Header) (node tag : ℕ) (t : Bool) (e : tag ≡ ta
   unfolding pick
   kin_internal g p = cc (le-ltb tag h.k p)
 
-  pub kin_damaged : t ≡ false → None ≡ kin_of b h node
-  unfolding pick
-  kin_damaged g = cc
-
 module _ (b : List ℕ) (h : Header) (parent node : ℕ) where
   pub below_kin : (c : Option Kin) → parent < node → c ≡ kin_of b h node → c ≡ below_of b h parent node
   unfolding pick
   below_kin c p e = cc (lt-ltb parent node p)
-
-  pub below_not : node ≤ parent → None ≡ below_of b h parent node
-  unfolding pick
-  below_not p = cc (le-ltb parent node p)
-
-pub ruleset kins = (kin_leaf, kin_internal, kin_damaged, below_kin, below_not)
 
 module _ (k tag : ℕ) (ks : List ℕ) (first pending o : ℕ) where
   pub image_tag : o ≡ 0 → tag ≡ image_word k tag ks first pending o
@@ -101,12 +91,6 @@ module _ (k tag : ℕ) (ks : List ℕ) (first pending o : ℕ) where
   pub image_child_lem : (r : ℕ) → (o ≡ 0 → ⊥) → k ≤ o → o < 2 * k → r ≡ image_child k tag first o → r ≡ image_word k tag ks first pending o
   unfolding pick
   image_child_lem r e p q f = cc (ne_eqb o 0 e, le-ltb o k p, lt-ltb o (2 * k) q)
-
-  pub image_pending : (o ≡ 0 → ⊥) → k ≤ o → 2 * k ≤ o → pending ≡ image_word k tag ks first pending o
-  unfolding pick
-  image_pending e p q = cc (ne_eqb o 0 e, le-ltb o k p, le-ltb o (2 * k) q)
-
-pub ruleset images = (image_tag, image_key, image_child_lem, image_pending)
 
 -- a pending word says what it stands for, both ways; its two parts
 kind_part : (r n : ℕ) → n < 4 → (4 * r + n) % 4 ≡ n
@@ -135,7 +119,3 @@ word_pending w = of_kind (w % 4) (w / 4) (mod-lt w (omega arith)) ∙ div-add-mo
 module _ (b : List ℕ) (h : Header) where
   pub child_is : (parent i node : ℕ) (c : Option Kin) → node ≡ child_word b h parent i → c ≡ below_of b h parent node → c ≡ child_of b h parent i
   child_is parent i node c e f = f ∙ ap (below_of b h parent) e
-
-  pub kind_is : (number kind word : ℕ) (s t u : Bool) → s ≡ record_in_use h number → word ≡ record_word b h number kind_field → t ≡ eqb word kind → u ≡ both s t →
-      u ≡ record_of_kind b h number kind
-  kind_is number kind word s t u e f g i = i ∙ rw (e, g, f) refl

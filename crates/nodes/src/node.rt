@@ -6,6 +6,7 @@ ghost use Rattle.nodes.specs.Node.{is_leaf as is_leaf_of};
 
 use crate::keys;
 use tables::header::Header;
+use tables::numbers::KEY_ROOM;
 use tables::words;
 
 // A leaf with its count of keys, or an internal node.
@@ -74,7 +75,7 @@ fn image_child(k: u32, tag: u32, first: u16, o: u32) -> u32
     }
 }
 
-fn image_word(k: u8, tag: u16, keys: [u32; 8], first: u16, pending: u32, o: u32) -> u32
+fn image_word(k: u8, tag: u16, keys: [u32; KEY_ROOM], first: u16, pending: u32, o: u32) -> u32
     ensures { result ≡ image_word k tag keys first pending o }
 {
     let wide = u32::from(k);
@@ -94,7 +95,7 @@ fn write_node(
     h: Header,
     node: u32,
     tag: u16,
-    keys: [u32; 8],
+    keys: [u32; KEY_ROOM],
     first: u16,
     pending: u32,
 )
@@ -107,7 +108,7 @@ fn write_node(
 }
 
 // "tag, k−1 keys, k children, pending": a leaf of so many keys, clean.
-pub fn write_leaf(block: &mut [u32], h: Header, node: u32, count: u16, keys: [u32; 8])
+pub fn write_leaf(block: &mut [u32], h: Header, node: u32, count: u16, keys: [u32; KEY_ROOM])
     ensures { block.new ≡ with_node block.old h node (leaf_image h.k count keys) }
 {
     write_node(block, h, node, count, keys, 0, 0);
@@ -118,7 +119,7 @@ pub fn write_internal(
     block: &mut [u32],
     h: Header,
     node: u32,
-    keys: [u32; 8],
+    keys: [u32; KEY_ROOM],
     first: u16,
     pending: u32,
 )

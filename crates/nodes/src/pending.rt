@@ -4,6 +4,7 @@ ghost use Rattle.nodes.specs.Pending.{record_in_use, record_of_kind, pending_goo
 
 use tables::header::Header;
 
+// Numbers and no enum: a record's kind is a word of the block, and `record_of_kind` speaks of every one.
 pub const REPLACE_KIND: u32 = 1;
 
 pub const PRUNE_KIND: u32 = 2;

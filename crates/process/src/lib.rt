@@ -110,6 +110,7 @@ impl Process {
         }
     }
 
+    // One field each, under its name: a function over fields Rust does not have, and an update at each caller says no more.
     pub fn with_point(self, point: u32) -> Process
         ensures { result ≡ with_point self point }
     {

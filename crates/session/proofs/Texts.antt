@@ -27,8 +27,6 @@ module _ (w : Out) (b keys : List ℕ) (at i : ℕ) (inv : w ≡ written b at (k
   unfolding key_lines written
   keys_done p = sym (inv ∙ rw (drop_of_length-le keys p))
 
-pub ruleset key_turns = (keys_again, keys_done)
-
 module _ (b b' list : List ℕ) (s : Said) (r : ℕ) where
   pub said_nothing : s ≡ said.Nothing → out 0 b ≡ written b 0 (said_text s list)
   unfolding written

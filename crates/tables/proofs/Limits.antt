@@ -123,12 +123,6 @@ module _ (b : List ℕ) (t : Bool) (long : 6 ≤ length b) (e : t ≡ header_goo
   unfolding pick
   read_good w f g p = cc (le-ltb (length b) 6 long, le-ltb (length b) w p)
 
-pub depth_none : (n k : ℕ) → k ≡ 0 → 0 ≡ (n - fresh_nodes k) / k
-depth_none n k e = rw e (sym (div-zero _))
-
-pub depth_short : (n k : ℕ) → n < fresh_nodes k → 0 ≡ (n - fresh_nodes k) / k
-depth_short n k p = let e : n - fresh_nodes k ≡ 0 = omega arith in rw e (sym (zero-div k))
-
 -- what a call does with a header that it has read: a refusal passes on, a good header is that of the block, and the call's own reasons follow
 good_tests : (t u v : Bool) (g h : Header) → pick t (header_refused 2) (pick u (header_refused 3) (pick v (header_refused 2) (Ok g))) ≡ Ok h →
     (t ≡ false) × (u ≡ false) × (v ≡ false) × (g ≡ h)

@@ -48,20 +48,6 @@ listed_ext f g i (suc n) e = ap2 (rw add-zero at (e 0 (omega arith))) (listed_ex
     ap2 : {A : Type 0} {x y : A} {s t : List A} → x ≡ y → s ≡ t → x ∷ s ≡ y ∷ t
     ap2 p q = cc
 
--- a loop that stores element after element of ws into a list z of the same length: z's front is ws's after each turn
-set_front : {A : Type 0} (ws z : List A) (i : ℕ) (d : A) → length z ≡ length ws → i < length ws → set (take i ws ++ drop i z) i (get_or ws i d) ≡ take (suc i) ws ++ drop (suc i) z
-set_front [] z i d n p = absurd (not-suc-le-zero p)
-set_front (w ∷ ws) [] i d n p = absurd (omega arith)
-set_front (w ∷ ws) (x ∷ z) zero d n p = refl
-set_front (w ∷ ws) (x ∷ z) (suc i) d n p = ap (λ (l : List _). w ∷ l) (set_front ws z i d (omega arith) (le_of_suc-le-suc p))
-
-pub filled_more : {A : Type 0} (ws z o : List A) (i : ℕ) (w d : A) → o ≡ take i ws ++ drop i z → length z ≡ length ws → i < length ws → w ≡ get_or ws i d →
-    set o i w ≡ take (i + 1) ws ++ drop (i + 1) z
-filled_more ws z o i w d e n p q = rw (add-one i, e, q) (set_front ws z i d n p)
-
-pub filled_all : {A : Type 0} (ws z o : List A) (i : ℕ) → o ≡ take i ws ++ drop i z → length z ≡ length ws → length ws ≤ i → o ≡ ws
-filled_all ws z o i e n p = e ∙ rw (take_all i ws p, drop_of_length-le z {i = i} (rw n p)) (append-nil ws)
-
 -- a loop that stores f 0, f 1, .. from base on, turn by turn
 pub left_over : (n o : ℕ) → o < n → n - o ≡ suc (n - (o + 1))
 left_over n o p = omega arith

@@ -46,10 +46,6 @@ either_some true t e = refl
 either_some false t (inl e) = absurd (subst (λ (t : Bool). T t) (sym e) tt)
 either_some false t (inr e) = e
 
--- two tests that are known, put together
-pub both_of : (s t x y u : Bool) → u ≡ both s t → s ≡ x → t ≡ y → u ≡ both x y
-both_of s t x y u e f g = e ∙ rw (f, g) refl
-
 pub pick_true : {A : Type 0} (t : Bool) (a b : A) → t ≡ true → pick t a b ≡ a
 unfolding pick
 pick_true true a b e = refl
@@ -60,22 +56,8 @@ unfolding pick
 pick_false true a b e = absurd (subst (λ (t : Bool). T t) e tt)
 pick_false false a b e = refl
 
-pub pick_yes : {A : Type 0} (t : Bool) (x a b : A) → t ≡ true → x ≡ a → x ≡ pick t a b
-pick_yes t x a b e f = rw (pick_true t a b e) f
-
-pub pick_no : {A : Type 0} (t : Bool) (x a b : A) → t ≡ false → x ≡ b → x ≡ pick t a b
-pick_no t x a b e f = rw (pick_false t a b e) f
-
-pub is_yes : (t u : Bool) → t ≡ u → t ≡ true → u ≡ true
-is_yes t u e f = rw (← e) f
-
-pub is_no : (t u : Bool) → t ≡ u → t ≡ false → u ≡ false
-is_no t u e f = rw (← e) f
-
 pub within_low : (lo x hi : ℕ) → within lo x hi ≡ true → lo ≤ x
 within_low lo x hi e = leb-true lo x (both_1 _ _ e)
 
 pub within_high : (lo x hi : ℕ) → within lo x hi ≡ true → x ≤ hi
 within_high lo x hi e = leb-true x hi (both_2 _ _ e)
-
-pub ruleset picks = (pick_yes, pick_no, is_yes, is_no, lt-ltb, le-ltb, le-leb, lt-leb, eq-eqb, ne_eqb)

@@ -9,8 +9,5 @@ module _ (from s t a b rows size : ℕ) (e : s ≡ from) (f : t ≡ a * b) (g : 
   pub rows_on : s + t ≡ from + rows * size
   rows_on = rw (f, g, i, e) refl
 
-  pub word_on : (o : ℕ) → s + t + o ≡ from + rows * size + o
-  word_on o = rw rows_on refl
-
 pub word_is : (b : List ℕ) (at place r : ℕ) → at ≡ place → r ≡ get_or b at 0 → r ≡ get_or b place 0
 word_is b at place r e f = f ∙ ap (λ (i : ℕ). get_or b i 0) e

@@ -53,6 +53,7 @@ pub fn k_stored(k: u32) -> u32
     if k == 0 { K_FOR_ZERO } else { k }
 }
 
+// 2k+1 stands under two names: document 01 has it for the nodes of a fresh tree and for the words of a node.
 pub fn fresh_nodes(k: u32) -> u64
     ensures { result ≡ fresh_nodes k }
 {
