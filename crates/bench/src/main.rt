@@ -51,7 +51,7 @@ impl Bench {
 
     // A piece of the input: each line that ends in it is taken, and the start of the next is held.
     fn take_piece(&mut self, rt: &impl Print, piece: &[u8]) {
-        // The cut is what `line_end` promises, so the loop goes by what it answers.
+        // A cursor and no `split`: that would cut again what `line_end` is proved to cut, and not tell a line that ends from one that goes on.
         let mut at = 0;
         while at < piece.len() {
             let end = cut::line_end(piece, at);
@@ -72,6 +72,7 @@ impl Bench {
     }
 }
 
+// One line of the library's, as `speed` has it too: the two programs share no crate of their own.
 // How many bytes one read puts at the front of the piece; none where it fails, as at the end of the input.
 fn read_some(input: &mut impl Read, piece: &mut [u8]) -> usize
     ensures { result ≤ length piece.new }

@@ -11,9 +11,9 @@ use tables::numbers;
 fn owner_good(block: &[u32], h: Header, number: u32) -> bool
     ensures { result ≡ owner_good block.now h number }
 {
-    let operation = h.record_word(block, number, 6);
-    let key = h.record_word(block, number, 7);
-    let owner = h.record_word(block, number, 5);
+    let operation = h.record_word(block, number, numbers::OPERATION_FIELD);
+    let key = h.record_word(block, number, numbers::KEY_FIELD);
+    let owner = h.record_word(block, number, numbers::PROCESS_FIELD);
     process::INSERT <= operation
         && operation <= process::DELETE
         && key < numbers::INFINITY
@@ -24,9 +24,9 @@ fn owner_good(block: &[u32], h: Header, number: u32) -> bool
 fn third_good(block: &[u32], h: Header, kind: u32, number: u32) -> bool
     ensures { result ≡ third_good block.now h kind number }
 {
-    let third = h.record_word(block, number, 3);
+    let third = h.record_word(block, number, numbers::THIRD_FIELD);
     if kind == pending::REPLACE_KIND {
-        let p = h.record_word(block, number, 2);
+        let p = h.record_word(block, number, numbers::P_FIELD);
         node::below_of(block, h, p, third).is_some()
     } else {
         node::is_internal(node::kin_of(block, h, third))
@@ -36,8 +36,8 @@ fn third_good(block: &[u32], h: Header, kind: u32, number: u32) -> bool
 fn places_good(block: &[u32], h: Header, kind: u32, number: u32) -> bool
     ensures { result ≡ places_good block.now h kind number }
 {
-    let p = h.record_word(block, number, 2);
-    let l = h.record_word(block, number, 1);
+    let p = h.record_word(block, number, numbers::P_FIELD);
+    let l = h.record_word(block, number, numbers::L_FIELD);
     node::is_internal(node::kin_of(block, h, p))
         && node::is_leaf(node::kin_of(block, h, l))
         && third_good(block, h, kind, number)
@@ -46,7 +46,7 @@ fn places_good(block: &[u32], h: Header, kind: u32, number: u32) -> bool
 fn expected_good(block: &[u32], h: Header, number: u32) -> bool
     ensures { result ≡ expected_good block.now h number }
 {
-    let seen = Pending::from(h.record_word(block, number, 4));
+    let seen = Pending::from(h.record_word(block, number, numbers::EXPECTED_FIELD));
     process::is_clean(seen) && pending::pending_good(block, h, seen)
 }
 

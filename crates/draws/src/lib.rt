@@ -8,7 +8,7 @@ use nodes::{keys, node, pending};
 use std::array;
 use tables::header::Header;
 use tables::numbers::KEY_ROOM;
-use tables::words;
+use tables::{numbers, words};
 
 // What a new record says of its maker and its place: the process, its operation and key, p and l.
 #[derive(Clone, Copy)]
@@ -161,8 +161,12 @@ fn commit(block: &mut [u32], h: Header, r: Record, needed: u32, flagged: u32)
 {
     write_record(block, h, r);
     let number = new_record(h);
-    words::put_at(block, 3, u32::from(h.nodesused) + needed);
-    words::put_at(block, 5, number);
+    words::put_at(
+        block,
+        numbers::NODES_USED_AT,
+        u32::from(h.nodesused) + needed,
+    );
+    words::put_at(block, numbers::RECORDS_USED_AT, number);
     words::put_at(block, h.pending_at(flagged), 4 * number + r.kind);
 }
 

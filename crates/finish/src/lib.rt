@@ -28,7 +28,7 @@ fn looked_for(h: Header, q: Process, seen: u32, target: u32, found: u32, missed:
     }
 }
 
-// Look for a node among the children of another.
+// Look for a node among the children of another: what the row is asked about, word for word, as in `hang`.
 fn look(
     block: &[u32],
     h: Header,

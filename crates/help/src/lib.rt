@@ -15,7 +15,7 @@ use nodes::pending;
 use nodes::pending::Pending;
 use process::{Answer, Process, Stepped};
 use tables::header::Header;
-use tables::words;
+use tables::{numbers, words};
 
 pub fn seen_good(block: &[u32], h: Header, word: u32) -> bool
     ensures { result ≡ pending_good block.now h (pending_of word) }
@@ -23,7 +23,7 @@ pub fn seen_good(block: &[u32], h: Header, word: u32) -> bool
     pending::pending_good(block, h, Pending::from(word))
 }
 
-// The record on top of the process's help stack.
+// The record on top of the process's help stack; `mark` reads the one under it.
 pub fn top_of(block: &[u32], h: Header, n: u32, q: Process) -> u32
     ensures { result ≡ top_of block.now h n q }
 {
@@ -64,20 +64,14 @@ pub fn top_good(block: &[u32], h: Header, depth: u32, top: u32) -> bool
 pub fn help_good(block: &[u32], h: Header, depth: u32, top: u32, seen: Pending) -> bool
     ensures { result ≡ help_good block.now h depth top seen }
 {
-    match seen {
-        Pending::Clean(_) => top_good(block, h, depth, top),
-        Pending::Replace(_) | Pending::Prune(_) | Pending::Mark(_) => true,
-    }
+    !process::is_clean(seen) || top_good(block, h, depth, top)
 }
 
 // "internal or holding a key"
 pub fn non_empty(kin: Kin) -> bool
     ensures { result ≡ non_empty kin }
 {
-    match kin {
-        Kin::Leaf(_, count) => count != 0,
-        Kin::Internal(_) => true,
-    }
+    !matches!(kin, Kin::Leaf(_, 0))
 }
 
 // One function of the field's number would be `record_word` once more.
@@ -85,19 +79,19 @@ pub fn non_empty(kin: Kin) -> bool
 pub fn helped_l(block: &[u32], h: Header, q: Process) -> u32
     ensures { result ≡ helped_l block.now h q }
 {
-    h.record_word(block, q.helped, 1)
+    h.record_word(block, q.helped, numbers::L_FIELD)
 }
 
 pub fn helped_p(block: &[u32], h: Header, q: Process) -> u32
     ensures { result ≡ helped_p block.now h q }
 {
-    h.record_word(block, q.helped, 2)
+    h.record_word(block, q.helped, numbers::P_FIELD)
 }
 
 pub fn helped_third(block: &[u32], h: Header, q: Process) -> u32
     ensures { result ≡ helped_third block.now h q }
 {
-    h.record_word(block, q.helped, 3)
+    h.record_word(block, q.helped, numbers::THIRD_FIELD)
 }
 
 // The swap of a node's pending from a flag of the record helped to clean with its number: a flag without its kind is that.

@@ -13,7 +13,7 @@ use tables::numbers::Refusal;
 pub use make::make;
 pub use walk::{listing, listing_part, range};
 
-// The record at a place of the row, counted from 0; an idle one past its end.
+// The record at a place of the row, counted from 0; an idle one past its end. (For words `tables::words` has the like, one line of the library's each.)
 pub fn take(row: &[Process], at: usize) -> Process
     ensures { result ≡ get_or row.now at idle }
 {

@@ -19,7 +19,7 @@ use nodes::{node, pending};
 use process::{Process, Stepped};
 use tables::header::Header;
 use tables::numbers::Refusal;
-use tables::words;
+use tables::{numbers, words};
 
 // "Else push the record and help what was seen."
 #[tactic(auto, unfolding(tables::specs::Choice::pick, crate::specs::Parts::pushed))]
@@ -69,7 +69,7 @@ pub fn point_9(block: &mut [u32], h: Header, n: u32, q: Process) -> Result<Stepp
         return Err(Refusal::Damaged);
     }
     let p = help::helped_p(block, h, q);
-    let expected = h.record_word(block, q.helped, 4);
+    let expected = h.record_word(block, q.helped, numbers::EXPECTED_FIELD);
     let word = h.pending_word(block, p);
     if help::seen_good(block, h, word) {
         mark_or_push(block, h, n, q, p, expected, word)

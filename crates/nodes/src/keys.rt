@@ -7,6 +7,7 @@ use tables::header::Header;
 use tables::numbers::{INFINITY, KEY_ROOM};
 
 // Keys are read by number and not lent as a slice: `key_word` promises 0 for a word past the end of the block, where no slice is.
+// Block, header, node and count of a leaf go together: a struct around them would be made at each call, from the same four names, and read once.
 // Key i of a node's first count keys, from 0; past them, what is given for past.
 #[tactic(auto, using(crate::proofs::Keyed::keys_at, crate::proofs::Keyed::keys_past))]
 fn key_or(block: &[u32], h: Header, node: u32, count: u8, i: u32, past: u32) -> u32

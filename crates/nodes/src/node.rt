@@ -51,6 +51,7 @@ pub fn child_of(block: &[u32], h: Header, parent: u32, i: u32) -> Option<Kin>
     below_of(block, h, parent, h.child_word(block, parent, i))
 }
 
+// Two tests of one line, each document 01's word for what a field may name.
 pub fn is_internal(child: Option<Kin>) -> bool
     ensures { result ≡ is_internal_of child }
 {

@@ -3,6 +3,7 @@ ghost use Rattle.std.specs.Prelude.{◌≡◌};
 ghost use Rattle.nodes.specs.Pending.{record_in_use, record_of_kind, pending_good};
 
 use tables::header::Header;
+use tables::numbers;
 
 // Numbers and no enum: a record's kind is a word of the block, and `record_of_kind` speaks of every one.
 pub const REPLACE_KIND: u32 = 1;
@@ -62,7 +63,7 @@ pub fn record_in_use(h: Header, number: u32) -> bool
 pub fn record_of_kind(block: &[u32], h: Header, number: u32, kind: u32) -> bool
     ensures { result ≡ record_of_kind block.now h number kind }
 {
-    record_in_use(h, number) && h.record_word(block, number, 0) == kind
+    record_in_use(h, number) && h.record_word(block, number, numbers::KIND_FIELD) == kind
 }
 
 pub fn pending_good(block: &[u32], h: Header, pending: Pending) -> bool

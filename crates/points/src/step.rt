@@ -15,7 +15,7 @@ use tables::header;
 use tables::header::Header;
 use tables::numbers::Refusal;
 
-// "Each accepted step does the one row of its point."
+// "Each accepted step does the one row of its point." A process's number goes beside its record: document 01's fifteen fields do not hold it.
 // Fourteen arms on the point's number and a range for damaged ones are document 01's form ("Forms by place in the code").
 #[tactic(auto, using(crate::proofs::Steps::outside))]
 fn row(block: &mut [u32], h: Header, n: u32, q: Process) -> Result<Stepped, Refusal>

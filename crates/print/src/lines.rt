@@ -13,7 +13,7 @@ pub struct StepLine {
     pub times: u32,
 }
 
-// The answer is 0 no, 1 yes, 2 full.
+// The answer is 0 no, 1 yes, 2 full: a number, since `answer_line` says what is written for each.
 #[derive(Clone, Copy)]
 pub struct AnswerLine {
     pub process: u32,

@@ -8,6 +8,7 @@ ghost use Rattle.print.specs.Writing.{plain_making_text, making_text, start_text
 use crate::lines::{AnswerLine, CountLine, StartLine, StepLine};
 use tables::numbers::Making;
 
+// Buffer and place stay two parameters: what each line promises, `out result buffer.new ≡ written buffer.old at ..`, speaks of both.
 pub fn put_bytes(buffer: &mut [u8], at: usize, text: &[u8]) -> usize
     ensures { out result buffer.new ≡ written buffer.old at text.now }
 {

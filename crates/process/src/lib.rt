@@ -191,6 +191,7 @@ impl Process {
         self.with_point(12).with_index(1)
     }
 
+    // One each under its name, as document 01 tells them apart by what is set beside the point.
     // "Helping a replace goes to 6, a prune to 9, a mark to 11 with its record"; the record being helped is set, the index is 1 at 6 and 11, the other node cleared at 11.
     pub fn to_six(self, helped: u32) -> Process
         ensures { result ≡ to_six self helped }

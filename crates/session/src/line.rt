@@ -2,15 +2,13 @@
 ghost use Rattle.std.specs.Prelude.{◌≡◌};
 ghost use Rattle.index.specs.Calls.{record_of, step_out};
 ghost use Rattle.session.specs.Line.{within_bench, begun, turn_of, did, done, making_done, first_done, start_done, goes_on, steps_of, steps_said, steps_done, list_done, later_done, line_done, is_over, finished};
-ghost use Rattle.session.specs.declared.line.Said.TheVariants.{Refused};
-ghost use Rattle.session.specs.declared.line.Stage.TheVariants.{Ended, Made as MadeStage};
 
 use held::Held;
 use print::lines::{AnswerLine, CountLine, StartLine, StepLine};
 use process::{Process, Progress};
 use script::lines::Line;
 use tables::numbers::{Making, Refusal};
-use tables::words;
+use tables::{numbers, words};
 
 // "Bench program: at most 8 processes, 512 nodes, 512 records .. more is refused 1."
 pub const BENCH_PROCESSES: u32 = 8;
@@ -18,10 +16,6 @@ pub const BENCH_PROCESSES: u32 = 8;
 pub const BENCH_NODES: u32 = 512;
 
 pub const BENCH_RECORDS: u32 = 512;
-
-const NODES_USED_AT: u64 = 3;
-
-const RECORDS_USED_AT: u64 = 5;
 
 // No line yet; the tables are made; a first line was refused.
 #[derive(Clone, Copy, Debug, PartialEq, Eq)]
@@ -37,7 +31,7 @@ pub struct Session {
     pub row: [Process; 32],
 }
 
-// What is to be printed of a line. The keys of a listing stand in the lent list.
+// What is to be printed of a line: four things, of which a refusal is one and no failure of the session's. The keys of a listing stand in the lent list.
 #[derive(Clone, Copy)]
 pub enum Said {
     Nothing,
@@ -77,41 +71,29 @@ fn within_bench(m: Making) -> bool
     m.processes <= BENCH_PROCESSES && m.nodes <= BENCH_NODES && m.records <= BENCH_RECORDS
 }
 
-// "in the first line it ends the run"
-fn ended(refusal: Refusal, row: [Process; 32]) -> Turn
-    ensures { result ≡ turn_of (Refused refusal) Ended row }
-{
-    saying(Said::Refused(refusal), Stage::Ended, row)
-}
-
 fn making(block: &mut [u32], row: [Process; 32], m: Making) -> Turn
     ensures { did result block.new ≡ making_done block.old row m }
 {
     if !within_bench(m) {
-        return ended(Refusal::MakingNumber, row);
+        return saying(Said::Refused(Refusal::MakingNumber), Stage::Ended, row);
     }
     let made = held::make_held(block, row, m);
     match made.answer {
         Ok(()) => saying(Said::Nothing, Stage::Made, made.row),
-        Err(e) => ended(e, made.row),
+        Err(e) => saying(Said::Refused(e), Stage::Ended, made.row),
     }
 }
 
+// "in the first line it ends the run"
 fn first(block: &mut [u32], row: [Process; 32], line: Option<Line>) -> Turn
     ensures { did result block.new ≡ first_done block.old row line }
 {
     match line {
         Some(Line::Making(m)) => making(block, row, m),
         Some(Line::Start(_) | Line::Steps(_) | Line::List) | None => {
-            ended(Refusal::NotInForm, row)
+            saying(Said::Refused(Refusal::NotInForm), Stage::Ended, row)
         }
     }
-}
-
-fn refused(refusal: Refusal, row: [Process; 32]) -> Turn
-    ensures { result ≡ turn_of (Refused refusal) MadeStage row }
-{
-    saying(Said::Refused(refusal), Stage::Made, row)
 }
 
 fn start(block: &[u32], row: [Process; 32], s: StartLine) -> Turn
@@ -120,7 +102,7 @@ fn start(block: &[u32], row: [Process; 32], s: StartLine) -> Turn
     let h = held::start_held(block, row, s.process, s.op, s.key);
     match h.answer {
         Ok(()) => saying(Said::Nothing, Stage::Made, h.row),
-        Err(e) => refused(e, h.row),
+        Err(e) => saying(Said::Refused(e), Stage::Made, h.row),
     }
 }
 
@@ -152,8 +134,7 @@ fn steps(
 fn record_of(row: [Process; 32], process: u32) -> Process
     ensures { result ≡ record_of row process }
 {
-    let at = process.saturating_sub(1) as usize;
-    row.get(at).copied().unwrap_or(Process::idle())
+    index::take(&row, process.saturating_sub(1) as usize)
 }
 
 // The operation and key that are printed are those of the process before the steps: an answer leaves it idle.
@@ -188,8 +169,8 @@ fn list_all(block: &[u32], list: &mut [u32]) -> Said
     match index::listing(block, list) {
         Ok(count) => Said::Listed(CountLine {
             count,
-            nodes: words::word_at(block, NODES_USED_AT),
-            records: words::word_at(block, RECORDS_USED_AT),
+            nodes: words::word_at(block, numbers::NODES_USED_AT),
+            records: words::word_at(block, numbers::RECORDS_USED_AT),
         }),
         Err(e) => Said::Refused(e),
     }
@@ -206,7 +187,7 @@ pub fn later(block: &mut [u32], list: &mut [u32], row: [Process; 32], line: Opti
             let said = list_all(block, list);
             saying(said, Stage::Made, row)
         }
-        Some(Line::Making(_)) | None => refused(Refusal::NotInForm, row),
+        Some(Line::Making(_)) | None => saying(Said::Refused(Refusal::NotInForm), Stage::Made, row),
     }
 }
 

@@ -7,7 +7,7 @@ mod work;
 ghost use Rattle.std.specs.Prelude.{◌≤◌, length};
 
 use std::io::Read;
-use tables::words;
+use tables::{numbers, words};
 use work::{Tally, Work};
 
 // The longest block of one process, that of k = 8, has 6 + 4,096·17 + 8·4,096 + (4,096 − 17) div 8 = 102,915 words.
@@ -59,8 +59,8 @@ fn report(rt: &impl Print, block: &[u32], t: Tally) {
         steps,
         sum,
     } = t;
-    let nodes = words::word_at(block, 3);
-    let records = words::word_at(block, 5);
+    let nodes = words::word_at(block, numbers::NODES_USED_AT);
+    let records = words::word_at(block, numbers::RECORDS_USED_AT);
     let _ = println!(rt;
         "yes={yes} no={no} full={full} refused={refused} steps={steps} nodes={nodes} records={records} sum={sum}"
     );

@@ -68,6 +68,7 @@ fn key_of(i: u32) -> u32
     ((u64::from(i) + 1) * 2654435761 % PRIME) as u32
 }
 
+// By `index::step` over a lent row, as a driver calls it, since that is what is timed; the session's steps go over a row that is held.
 // Steps of process 1 in a row of one record, until an answer or a refusal; at most so many.
 fn steps(block: &mut [u32], held: [Process; 1], most: u32) -> Result<Progress, Refusal>
     ensures { steps_out result block.new ≡ steps_from most block.old held }

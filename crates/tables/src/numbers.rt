@@ -23,6 +23,28 @@ pub const RECORD_WORDS: u64 = 8;
 
 pub const KEY_ROOM: usize = 8;
 
+// "Record: kind, leaf l, parent p, third, expected pending of p, process, operation, key"
+pub const KIND_FIELD: u32 = 0;
+
+pub const L_FIELD: u32 = 1;
+
+pub const P_FIELD: u32 = 2;
+
+pub const THIRD_FIELD: u32 = 3;
+
+pub const EXPECTED_FIELD: u32 = 4;
+
+pub const PROCESS_FIELD: u32 = 5;
+
+pub const OPERATION_FIELD: u32 = 6;
+
+pub const KEY_FIELD: u32 = 7;
+
+// Where the header's used counts stand.
+pub const NODES_USED_AT: u64 = 3;
+
+pub const RECORDS_USED_AT: u64 = 5;
+
 // In the order of document 01's table, whose numbers they have.
 #[derive(Clone, Copy, Debug, PartialEq, Eq)]
 pub enum Refusal {
