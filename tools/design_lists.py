@@ -128,6 +128,29 @@ def became(old, new):
     return out
 
 
+def lemmas(files):
+    """The names that a file of laws declares, by file."""
+    found = collections.defaultdict(list)
+    for name, text in files.items():
+        m = re.match(r"crates/(\w+)/proofs/([A-Z]\w*)\.antt$", name)
+        if m:
+            for block in text.split("\n\n"):
+                head = re.search(r"(?m)^ *(?:pub |abbrev |unfoldable |record )*(ruleset )?([^\s:(]+) (?:: |\()", "\n".join(line for line in block.split("\n") if not re.match(r"\s*--|use |module ", line)))
+                if head and not head.group(1):
+                    found[f"{m.group(1)} {m.group(2)}"].append(head.group(2))
+    return found
+
+
+def went(old, new):
+    print("### Lemmas that went, by the file they stood in\n")
+    kept = {(f.split()[0], n) for f, some in new.items() for n in some}
+    for f in sorted(old):
+        lost = [n for n in old[f] if (f.split()[0], n) not in kept]
+        if lost:
+            print(f"- {f}: " + ", ".join(f"`{n}`" for n in lost))
+    print()
+
+
 def quoted(text):
     return "`" + text.replace("`", "'") + "`" if text else "none"
 
@@ -155,3 +178,4 @@ show("Public functions", functions(before), functions(after))
 show("Public types and traits", types(before), types(after))
 show("Definitions of specs/", definitions(before), definitions(after))
 show("Laws of proofs/ that the pages named", laws(before, named), laws(after, named))
+went(lemmas(before), lemmas(after))
