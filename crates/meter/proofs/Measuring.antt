@@ -79,18 +79,18 @@ module _ (b : List ℕ) (h : Header) (node : ℕ) where
 -- what the measuring pass is after damage
 pub damage_measured : (p : Tally) → Measured p [] false (record p { sound = false })
 unfolding any_within
-damage_measured p = record { low = refl; high = refl; count = λ e. omega arith; found = sym (either_none p.found); sound = sym (both_false p.sound) }
+damage_measured p = record { low = refl; high = refl; count = omega arith; found = sym (either_none p.found); sound = sym (both_false p.sound) }
 
 -- and after a leaf; the count is a saturating sum
 pub leaf_measured : (b : List ℕ) (h : Header) (node count : ℕ) (p : Tally) (found rising : Bool) (sum n : ℕ) → found ≡ any_within p.low p.high (keys_of b h node count) →
-    rising ≡ rises (keys_of b h node count) → n ≡ count → sum ≡ min (p.count + n) 4294967295 →
+    rising ≡ rises (keys_of b h node count) → n ≡ count → p.count < 2 ^ 32 → sum ≡ min (p.count + n) 4294967295 →
     Measured p (keys_of b h node count) (rises (keys_of b h node count)) (record { low = p.low; high = p.high; count = sum; found = p.found || found; sound = p.sound && rising })
 unfolding both pick
-leaf_measured b h node count p found rising sum n e f g j =
+leaf_measured b h node count p found rising sum n e f g k j =
     record {
       low = refl;
       high = refl;
-      count = λ room. omega (arith, keys_length b h node count);
+      count = omega (arith, keys_length b h node count);
       found = go p.found ∙ ap (either p.found) e;
       sound = to p.sound ∙ ap (both p.sound) f;
     }
@@ -113,7 +113,7 @@ module _ (b : List ℕ) (h : Header) (root : Option Kin) (e : root ≡ kin_of b 
       → Measured (record { low = low; high = high; count = 0; found = false; sound = true }) (met_from b h root h.nodesused).keys (met_from b h root h.nodesused).sound q
       → record { allowed = left; count = q.count; found = q.found; sound = q.sound } ≡ measure_of low high (walked b h)
   unfolding both pick
-  measured_all low high left q k n f m = same_meter left _ q.count _ q.found _ q.sound _ f (omega (arith, m.count few)) m.found m.sound ∙ ap (measure_of low high) z
+  measured_all low high left q k n f m = same_meter left _ q.count _ q.found _ q.sound _ f (omega (arith, m.count, few)) m.found m.sound ∙ ap (measure_of low high) z
     where
       z : met_from b h root h.nodesused ≡ walked b h
       z = ap (λ (c : Option Kin). met_from b h c h.nodesused) e
