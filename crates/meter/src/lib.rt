@@ -100,13 +100,10 @@ impl Pass for Tally {
 fn leaf_within(block: &[u32], h: Header, node: u32, count: u8, low: u32, high: u32) -> bool
     ensures { result ≡ any_within low high (keys_of block.now h node count) }
 {
-    for i in 0..u32::from(count) {
+    (0..u32::from(count)).any(|i| {
         let key = h.key_word(block, node, i + 1);
-        if low <= key && key <= high {
-            return true;
-        }
-    }
-    false
+        low <= key && key <= high
+    })
 }
 
 // The whole walk, from node 1.
