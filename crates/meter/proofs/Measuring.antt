@@ -1,23 +1,22 @@
 -- The measuring pass, return by return and turn by turn: it keeps what its definition says of the walk.
-use Prim.Native.Nat.{ℕ, zero, suc, ◌+◌, ◌-◌, ◌^◌, ◌≤◌, ◌<◌, min}
+use Prim.Native.Nat.{ℕ, zero, suc, ◌+◌, ◌^◌, ◌<◌, min}
 use mathlib.Core.Path.{◌≡◌, refl, sym, ap, ◌∙◌}
 use mathlib.Core.Bool.{Bool, true, false, ◌||◌, ◌&&◌}
-use mathlib.Core.Logic.{◌⊎◌, inl, inr}
 use mathlib.Core.List.{List, [], ◌∷◌, ◌++◌}
 use native.Mathlib.Omega.{arith}
 use native.Mathlib.Numerals.{add-one}
 use lib.ListN.{length}
-use borrow.Author.Tests.{le-leb, lt-leb}
 use Rattle.std.specs.Prelude.{Option}
+use Rattle.std.specs.List.{list_any, range_with_len}
 use Rattle.nodes.specs.declared.node.Kin.{Kin}
 use Rattle.tables.specs.Choice.{pick, both, either, within, listed}
 use Rattle.tables.specs.Layout.{key_word}
 use Rattle.nodes.specs.Keys.{keys_of, rises}
 use Rattle.nodes.specs.Node.{kin_of}
 use Rattle.tables.specs.declared.header.Header.{Header}
-use Rattle.tables.proofs.Picks.{both_false, either_some}
+use Rattle.tables.proofs.Picks.{both_false}
 use Rattle.meter.proofs.Rooms.{few_keys}
-use Rattle.meter.specs.Laws.{either_none, any_append}
+use Rattle.meter.specs.Laws.{either_none}
 use Rattle.nodes.proofs.Keyed.{keys_length}
 use Rattle.meter.specs.Walk.{Walk, met_from, walked}
 use Rattle.meter.specs.Measure.{any_within, measure_of, Measured}
@@ -33,64 +32,39 @@ listed_more f i n = rw (add-one n) (go i n)
     go i zero = let e : i + 0 ≡ i = omega arith in rw e refl
     go i (suc n) = let e : i + suc n ≡ i + 1 + n = omega arith in rw e (ap (λ (l : List ℕ). f i ∷ l) (go (i + 1) n))
 
-any_one : (low high x : ℕ) → any_within low high (x ∷ []) ≡ within low x high
-unfolding any_within
-any_one low high x = either_none (within low x high)
-
 module _ (b : List ℕ) (h : Header) (node : ℕ) where
   pub keys_more : (i : ℕ) → keys_of b h node (i + 1) ≡ keys_of b h node i ++ key_word b h node (i + 1) ∷ []
   keys_more i = let e : 1 + i ≡ i + 1 = omega arith in listed_more (λ j. key_word b h node j) 1 i ∙ ap (λ (j : ℕ). keys_of b h node i ++ key_word b h node j ∷ []) e
 
-  module _ (low high : ℕ) where
-    abbrev found : ℕ → Bool
-    found i = any_within low high (keys_of b h node i)
+-- the keys in a range, place by place
+within_from : (low high : ℕ) (f : ℕ → ℕ) (a n : ℕ) → list_any (λ i. within low (f (i + 1)) high) (range_with_len a n) ≡ any_within low high (listed f (a + 1) n)
+unfolding any_within listed pick
+within_from low high f a zero = refl
+within_from low high f a (suc n) = go (within low (f (a + 1)) high) (within_from low high f (a + 1) n)
+  where
+    go : (t : Bool) {x y : Bool} → x ≡ y → (t || x) ≡ either t y
+    go true e = refl
+    go false e = e
 
-    within_next : (i : ℕ) → found (i + 1) ≡ either (found i) (within low (key_word b h node (i + 1)) high)
-    within_next i = ap (any_within low high) (keys_more i) ∙ any_append low high (keys_of b h node i) (key_word b h node (i + 1) ∷ []) ∙ ap (either (found i)) (any_one low high (key_word b h node (i + 1)))
-
-    pub within_none : found 0 ≡ false
-    unfolding any_within listed
-    within_none = refl
-
-    module _ (i key : ℕ) (e : key ≡ key_word b h node (i + 1)) where
-      pub within_no : ((low ≤ key) × (high < key)) ⊎ (key < low) → found i ≡ false → found (i + 1) ≡ false
-      unfolding both pick
-      within_no d f = within_next i ∙ rw (f, ← e) (go d)
-        where
-          go : ((low ≤ key) × (high < key)) ⊎ (key < low) → within low key high ≡ false
-          go (inl p) = rw (le-leb low key p.0, lt-leb key high p.1) refl
-          go (inr p) = rw (lt-leb low key p) refl
-
-      within_here : low ≤ key → key ≤ high → found (i + 1) ≡ true
-      unfolding both
-      within_here p q = within_next i ∙ either_some _ _ (inr (rw (← e, le-leb low key p, le-leb key high q) refl))
-
-      within_later : low ≤ key → key ≤ high → (m : ℕ) → found (i + 1 + m) ≡ true
-      within_later p q zero = let z : i + 1 + 0 ≡ i + 1 = omega arith in rw z (within_here p q)
-      within_later p q (suc m) =
-          let z : i + 1 + suc m ≡ i + 1 + m + 1 = omega arith in
-          rw z (within_next (i + 1 + m) ∙ either_some _ _ (inl (within_later p q m)))
-
-      pub within_yes : (n end : ℕ) → i < end → end ≡ n → low ≤ key → key ≤ high → true ≡ found n
-      within_yes n end r f p q =
-          let z : i + 1 + (n - (i + 1)) ≡ n = omega arith in
-          sym (within_later p q (n - (i + 1))) ∙ ap found z
+pub within_all : (low high : ℕ) (b : List ℕ) (h : Header) (node count : ℕ) →
+    list_any (λ i. within low (key_word b h node (i + 1)) high) (range_with_len 0 count) ≡ any_within low high (keys_of b h node count)
+within_all low high b h node count = within_from low high (λ i. key_word b h node i) 0 count ∙ (let z : 0 + 1 ≡ 1 = omega arith in rw z refl)
 
 -- what the measuring pass is after damage
 pub damage_measured : (p : Tally) → Measured p [] false (record p { sound = false })
 unfolding any_within
-damage_measured p = record { low = refl; high = refl; count = λ e. omega arith; found = sym (either_none p.found); sound = sym (both_false p.sound) }
+damage_measured p = record { low = refl; high = refl; count = omega arith; found = sym (either_none p.found); sound = sym (both_false p.sound) }
 
 -- and after a leaf; the count is a saturating sum
 pub leaf_measured : (b : List ℕ) (h : Header) (node count : ℕ) (p : Tally) (found rising : Bool) (sum n : ℕ) → found ≡ any_within p.low p.high (keys_of b h node count) →
-    rising ≡ rises (keys_of b h node count) → n ≡ count → sum ≡ min (p.count + n) 4294967295 →
+    rising ≡ rises (keys_of b h node count) → n ≡ count → p.count < 2 ^ 32 → sum ≡ min (p.count + n) 4294967295 →
     Measured p (keys_of b h node count) (rises (keys_of b h node count)) (record { low = p.low; high = p.high; count = sum; found = p.found || found; sound = p.sound && rising })
 unfolding both pick
-leaf_measured b h node count p found rising sum n e f g j =
+leaf_measured b h node count p found rising sum n e f g k j =
     record {
       low = refl;
       high = refl;
-      count = λ room. omega (arith, keys_length b h node count);
+      count = omega (arith, keys_length b h node count);
       found = go p.found ∙ ap (either p.found) e;
       sound = to p.sound ∙ ap (both p.sound) f;
     }
@@ -113,7 +87,7 @@ module _ (b : List ℕ) (h : Header) (root : Option Kin) (e : root ≡ kin_of b 
       → Measured (record { low = low; high = high; count = 0; found = false; sound = true }) (met_from b h root h.nodesused).keys (met_from b h root h.nodesused).sound q
       → record { allowed = left; count = q.count; found = q.found; sound = q.sound } ≡ measure_of low high (walked b h)
   unfolding both pick
-  measured_all low high left q k n f m = same_meter left _ q.count _ q.found _ q.sound _ f (omega (arith, m.count few)) m.found m.sound ∙ ap (measure_of low high) z
+  measured_all low high left q k n f m = same_meter left _ q.count _ q.found _ q.sound _ f (omega (arith, m.count, few)) m.found m.sound ∙ ap (measure_of low high) z
     where
       z : met_from b h root h.nodesused ≡ walked b h
       z = ap (λ (c : Option Kin). met_from b h c h.nodesused) e

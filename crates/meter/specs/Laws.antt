@@ -26,17 +26,21 @@ module _ (low high : ℕ) where
 -- what the trait asks of the measuring pass
 pub measured_nothing : (p : Tally) → Measured p [] true p
 unfolding any_within
-measured_nothing p = record { low = refl; high = refl; count = λ e. omega arith; found = sym (either_none p.found); sound = sym (both_true p.sound) }
+measured_nothing p = record { low = refl; high = refl; count = omega arith; found = sym (either_none p.found); sound = sym (both_true p.sound) }
 
 pub measured_behind : (p q r : Tally) (ks ls : List ℕ) (s t : Bool) → Measured p ks s q → Measured q ls t r → Measured p (ks ++ ls) (both s t) r
 measured_behind p q r ks ls s t e f =
     record {
       low = f.low ∙ e.low;
       high = f.high ∙ e.high;
-      count = λ room.
-          let n = length-append ks ls in
-          let m = e.count (omega (arith, n)) in
-          omega (arith, m, n, f.count (omega (arith, m, n)));
+      count = omega (arith, length-append ks ls, e.count, f.count);
       found = f.found ∙ rw (e.found, e.low, e.high) (either_assoc p.found _ _ ∙ ap (either p.found) (sym (any_append p.low p.high ks ls)));
       sound = f.sound ∙ rw e.sound (both_assoc p.sound s t);
     }
+
+pub measured_one : (p q r : Tally) (ks : List ℕ) (s : Bool) → Measured p ks s q → Measured p ks s r → q ≡ r
+measured_one p q r ks s e f =
+    same_tally q r (e.low ∙ sym f.low) (e.high ∙ sym f.high) (e.count ∙ sym f.count) (e.found ∙ sym f.found) (e.sound ∙ sym f.sound)
+  where
+    same_tally : (q r : Tally) → q.low ≡ r.low → q.high ≡ r.high → q.count ≡ r.count → q.found ≡ r.found → q.sound ≡ r.sound → q ≡ r
+    same_tally q r e f g j k i = record { low = e i; high = f i; count = g i; found = j i; sound = k i }

@@ -7,7 +7,7 @@ ghost use Rattle.tables.specs.Choice.{both};
 ghost use Rattle.nodes.specs.Keys.{keys_of, rises};
 ghost use Rattle.meter.specs.Walk.{met_from, walked};
 ghost use Rattle.meter.specs.Measure.{any_within, measure_of, Measured};
-ghost use Rattle.meter.specs.Laws.{measured_nothing, measured_behind};
+ghost use Rattle.meter.specs.Laws.{measured_nothing, measured_behind, measured_one};
 
 use nodes::node::Kin;
 use nodes::{keys, node};
@@ -28,6 +28,9 @@ pub trait Pass {
     ghost nothing: { (p : Self) → met p [] true p };
 
     ghost behind: { (p q r : Self) (ks ls : List ℕ) (s t : Bool) → met p ks s q → met q ls t r → met p (ks ++ ls) (both s t) r };
+
+    // What is met leaves one pass after.
+    ghost one: { (p q r : Self) (ks : List ℕ) (s : Bool) → met p ks s q → met p ks s r → q ≡ r };
 
     // The walk down from a node, children in order, ended by the number of nodes still allowed, which it answers.
     final fn walk(&mut self, block: &[u32], h: Header, child: Option<Kin>, allowed: u16) -> u16
@@ -79,6 +82,8 @@ impl Pass for Tally {
 
     ghost behind = { measured_behind };
 
+    ghost one = { measured_one };
+
     fn leaf(&mut self, block: &[u32], h: Header, node: u32, count: u8) {
         self.found |= leaf_within(block, h, node, count, self.low, self.high);
         self.sound &= keys::rises(block, h, node, count);
@@ -95,13 +100,10 @@ impl Pass for Tally {
 fn leaf_within(block: &[u32], h: Header, node: u32, count: u8, low: u32, high: u32) -> bool
     ensures { result ≡ any_within low high (keys_of block.now h node count) }
 {
-    for i in 0..u32::from(count) {
+    (0..u32::from(count)).any(|i| {
         let key = h.key_word(block, node, i + 1);
-        if low <= key && key <= high {
-            return true;
-        }
-    }
-    false
+        low <= key && key <= high
+    })
 }
 
 // The whole walk, from node 1.
