@@ -21,6 +21,8 @@ use Rattle.meter.specs.Walk.{met_from, walked}
 use Rattle.meter.proofs.Measuring.{keys_more}
 use Rattle.meter.proofs.Rooms.{few_keys}
 use Rattle.fill.specs.Laws.{sets-append}
+use Rattle.fill.specs.Fill.{Filled}
+use Rattle.fill.specs.declared.Filling.{Filling}
 
 pub stored_length : (list₀ list ks : List ℕ) (at : ℕ) → list ≡ sets list₀ at ks → length list ≡ length list₀
 stored_length list₀ list ks at e = ap length e ∙ length-sets list₀ at ks
@@ -59,7 +61,9 @@ module _ (b : List ℕ) (h : Header) (node : ℕ) where
 
 -- the whole walk, from node 1: nothing has been stored before, so that all keys have room
 pub stored_walk : (b : List ℕ) (h : Header) (root : Option Kin) → root ≡ kin_of b h 1 → h.k < 256 → h.nodesused < 65536 →
-    (list : List ℕ) → sets list 0 (take (18446744073709551615 - 0) (met_from b h root h.nodesused).keys) ≡ sets list 0 (walked b h).keys
-stored_walk b h root e k n list =
+    (p q : Filling) (s : Bool) → Filled p (met_from b h root h.nodesused).keys s q → p.at ≡ 0 → q.list.now ≡ sets p.list.now 0 (walked b h).keys
+stored_walk b h root e k n p q s f z =
     let same = ap (λ (c : Option Kin). (met_from b h c h.nodesused).keys) e in
-    ap (sets list 0) (take_all (18446744073709551615 - 0) (met_from b h root h.nodesused).keys (omega (arith, few_keys b h k n, ap length same)) ∙ same)
+    f.stored
+    ∙ ap (sets p.list.now p.at) (take_all (18446744073709551615 - p.at) (met_from b h root h.nodesused).keys (omega (arith, few_keys b h k n, ap length same)) ∙ same)
+    ∙ ap (λ (at : ℕ). sets p.list.now at (walked b h).keys) z
