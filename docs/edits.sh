@@ -20,7 +20,7 @@ not_proved() { # CRATE ERROR
         file=${path%%:*} line=${path#*:} line=${line%%:*}
         path=${file#src/} path=${path%.rt} path=${path//\//::}
         printf '`%s::%s%s`' "$1" "$(case $path in lib | main) ;; *) echo "$path::" ;; esac)" \
-            "$(head -n "$line" "crates/$1/$file" | sed -nE 's/^ *(pub )?(final )?fn ([a-z0-9_]+).*/\2/p' | tail -n 1)" ;;
+            "$(awk -f docs/functions.awk "crates/$1/$file" | awk -v at="$line" '$3 <= at && at <= $4 { print ($1 == "-" ? "" : $1 "::") $2; exit }')" ;;
     *) echo 'a law' ;;
     esac
 }

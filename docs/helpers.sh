@@ -27,21 +27,9 @@ change() { # FUNCTION OLD NEW
     printf '%s\n' "${text/"$old"/"$new"}" > "$file"
 }
 
-# The lines of a function, from the attributes above it on. A method's impl is found by the type before its name, as the check names it:
-# `Header` for `impl Header`, `PendingFromU32` for `impl From<u32> for Pending`, and `Pass` for `trait Pass`.
-lines_of() { # FUNCTION FILE: the first and the last
-    awk -v name="${1##*::}" -v path="$1" '
-        function big(word) { return toupper(substr(word, 1, 1)) substr(word, 2) }
-        /^(impl|(pub )?trait) / {
-            type = $0; sub(/^(pub )?(impl|trait) /, "", type); sub(/ \{$/, "", type)
-            if (match(type, / for /)) { of = substr(type, RSTART + 5); by = substr(type, 1, RSTART - 1); split(by, part, /[<>]/); type = big(of) part[1] big(part[2]) }
-            sub(/<.*/, "", type)
-        }
-        /^}/ { type = "" }
-        /^ *#\[/ { if (!held) held = NR; next }
-        $0 ~ "^ *(pub |final )*fn " name "[^A-Za-z0-9_]" && (type == "" && path ~ "(^|::)[a-z_]*::" name "$" || type != "" && path ~ "::" type "::" name "$") { from = held ? held : NR; end = type == "" ? "^}" : "^    }" }
-        { held = 0 }
-        from && $0 ~ end { print from, NR; exit }' "$2"
+lines_of() { # FUNCTION FILE: the first and the last, from the attributes above it on
+    awk -f "$top/docs/functions.awk" "$2" | awk -v name="${1##*::}" -v path="$1" '
+        $2 == name && ($1 == "-" ? path ~ "(^|::)[a-z_]*::" name "$" : path ~ "::" $1 "::" name "$") { print $3, $4; exit }'
 }
 
 # The first goal of a function that the check could not prove by itself: its line stands in the function.

@@ -141,11 +141,22 @@ def lemmas(files):
     return found
 
 
-def went(old, new):
-    print("### Lemmas that went, by the file they stood in\n")
-    kept = {(f.split()[0], n) for f, some in new.items() for n in some}
+def rulesets(files):
+    """The names of the lists of lemmas that a file declares, by file."""
+    found = collections.defaultdict(list)
+    for name, text in files.items():
+        m = re.match(r"crates/(\w+)/proofs/([A-Z]\w*)\.antt$", name)
+        if m:
+            found[f"{m.group(1)} {m.group(2)}"] += re.findall(r"(?m)^ *(?:pub )?ruleset (\S+)", text)
+    return found
+
+
+def went(title, old, new):
+    """What a file has no more, where it did not move to another file of its crate."""
+    print(f"### {title}, by the file they stood in\n")
+    moved = {(f.split()[0], n) for f, some in new.items() for n in some if n not in old.get(f, [])}
     for f in sorted(old):
-        lost = [n for n in old[f] if (f.split()[0], n) not in kept]
+        lost = [n for n in old[f] if n not in new.get(f, []) and (f.split()[0], n) not in moved]
         if lost:
             print(f"- {f}: " + ", ".join(f"`{n}`" for n in lost))
     print()
@@ -178,4 +189,5 @@ show("Public functions", functions(before), functions(after))
 show("Public types and traits", types(before), types(after))
 show("Definitions of specs/", definitions(before), definitions(after))
 show("Laws of proofs/ that the pages named", laws(before, named), laws(after, named))
-went(lemmas(before), lemmas(after))
+went("Lemmas that went", lemmas(before), lemmas(after))
+went("Rulesets that went", rulesets(before), rulesets(after))

@@ -1,7 +1,7 @@
 // The bench program of document 01: it reads the input, cuts it into lines, has each done, and writes what is to be printed.
 #![tactic(auto)]
 
-ghost use Rattle.std.specs.Prelude.{◌≤◌, length};
+ghost use Rattle.std.specs.Prelude.{◌≡◌, ◌≤◌, length};
 
 use session::line::Session;
 use session::{cut, line, text};
@@ -35,7 +35,9 @@ struct Bench {
 
 impl Bench {
     // The line that is held is done, and what it says is written. A write that fails is passed over: the lines behind it are done all the same.
-    fn take_line(&mut self, rt: &impl Print) {
+    fn take_line(&mut self, rt: &impl Print)
+        ensures { self.new.kept ≡ 0 }
+    {
         let asked = script::read::read_line(&self.held[..self.kept]);
         self.kept = 0;
         let turn = line::act(&mut self.block, &mut self.list, self.session, asked);
@@ -64,7 +66,9 @@ impl Bench {
     }
 
     // The end of the input: a line that has begun ends there, and the run with it.
-    fn take_rest(&mut self, rt: &impl Print) {
+    fn take_rest(&mut self, rt: &impl Print)
+        ensures { self.new.kept ≡ 0 }
+    {
         if self.kept > 0 {
             self.take_line(rt);
         }

@@ -9,7 +9,7 @@ ghost use Rattle.index.specs.Calls.{start_out, start_call, step_out, step_call};
 use process::{Process, Progress};
 use tables::numbers::Refusal;
 
-// Making is proved in crate `make`, the "single calls, lent the block without the process row" in crate `walk`; all are passed on with their contracts, so that a driver names one crate.
+// Making is proved in crate `make`, the "single calls, lent the block without the process row" in crate `walk`; all are passed on with their contracts, so that a driver calls one crate.
 pub use make::make;
 pub use walk::{listing, listing_part, range};
 

@@ -85,8 +85,8 @@ impl Pass for Tally {
     ghost one = { measured_one };
 
     fn leaf(&mut self, block: &[u32], h: Header, node: u32, count: u8) {
-        self.found |= leaf_within(block, h, node, count, self.low, self.high);
         self.sound &= keys::rises(block, h, node, count);
+        self.found |= leaf_within(block, h, node, count, self.low, self.high);
         // A leaf has a byte of keys at most and a walk 16 bits of nodes: the count never gets so far.
         self.count = self.count.saturating_add(u32::from(count));
     }

@@ -100,7 +100,7 @@ word_ends b = go (eqb b 32) (eqb b 10)
 
 -- what a value says of its digits
 module _ (ds : List ℕ) where
-  value_is_big : None ≡ value_in ds → leb (value_of ds) most ≡ false
+  pub value_is_big : None ≡ value_in ds → leb (value_of ds) most ≡ false
   unfolding pick
   value_is_big = go (leb (value_of ds) most)
     where
@@ -108,7 +108,7 @@ module _ (ds : List ℕ) where
       go true e = cc
       go false e = refl
 
-  value_is_fit : (n : ℕ) → Some n ≡ value_in ds → (leb (value_of ds) most ≡ true) × (n ≡ value_of ds)
+  pub value_is_fit : (n : ℕ) → Some n ≡ value_in ds → (leb (value_of ds) most ≡ true) × (n ≡ value_of ds)
   unfolding pick
   value_is_fit n = go (leb (value_of ds) most)
     where

@@ -49,7 +49,7 @@ fn work_of(text: &[u8]) -> Work {
     }
 }
 
-// A write that fails is passed over, as is what is left of its line.
+// One write for each number: one that fails is passed over, and what stands behind it is written all the same.
 fn report(rt: &impl Print, block: &[u32], t: Tally) {
     let Tally {
         yes,
@@ -61,9 +61,15 @@ fn report(rt: &impl Print, block: &[u32], t: Tally) {
     } = t;
     let nodes = words::word_at(block, numbers::NODES_USED_AT);
     let records = words::word_at(block, numbers::RECORDS_USED_AT);
-    let _ = println!(rt;
-        "yes={yes} no={no} full={full} refused={refused} steps={steps} nodes={nodes} records={records} sum={sum}"
-    );
+    let _ = print!(rt; "yes={yes}");
+    let _ = print!(rt; " no={no}");
+    let _ = print!(rt; " full={full}");
+    let _ = print!(rt; " refused={refused}");
+    let _ = print!(rt; " steps={steps}");
+    let _ = print!(rt; " nodes={nodes}");
+    let _ = print!(rt; " records={records}");
+    let _ = print!(rt; " sum={sum}");
+    let _ = rt.write_all(b"\n");
 }
 
 // How many bytes one read puts at the front of the text; none where it fails, as at the end of the input.

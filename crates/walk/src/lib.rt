@@ -4,7 +4,7 @@
 
 ghost use Rattle.std.specs.Prelude.{◌≡◌};
 ghost use Rattle.walk.specs.Calls.{list_out, list_of, part_of, range_of};
-ghost use Rattle.walk.specs.Parts.{list_good, range_good};
+ghost use Rattle.walk.specs.Parts.{list_good, range_good, filled_of};
 
 use tables::header::Header;
 use tables::numbers::Refusal;
@@ -34,12 +34,19 @@ pub fn listing(block: &[u32], list: &mut [u32]) -> Result<u32, Refusal>
     list_good(block, h, list)
 }
 
+// A listing that is refused has filled no word.
+fn filled_of(listed: Result<u32, Refusal>) -> u32
+    ensures { result ≡ filled_of listed }
+{
+    listed.unwrap_or(0)
+}
+
 // "a twin call does the same and hands back the filled part of the caller's list, empty if refused": the list's front.
 // A list that is handed on is spent, and no clause can speak of its other words at exit; all that is done to them is `listing`'s to say.
 pub fn listing_part<'a>(block: &[u32], list: &'a mut [u32]) -> &'a mut [u32]
     ensures { (result.now ≡ part_of block.now list.old) × (result.ref_ptr ≡ list.entry.ref_ptr) }
 {
-    let n = listing(block, list).unwrap_or(0) as usize;
+    let n = filled_of(listing(block, list)) as usize;
     &mut list[..n]
 }
 
