@@ -1,6 +1,7 @@
 #!/usr/bin/env python3
 """What differs between a commit and the tree, old and new one below the other, for docs/DESIGN-PASS.md:
-public functions (signature and clauses), public types, definitions of specs/, and the statements of those laws that the pages name.
+public functions (signature and clauses), public types, definitions of specs/, the statements of those laws that the pages name,
+and the names of the lemmas and rulesets that went.
     tools/design_lists.py COMMIT        where the text is the same but for layout, nothing is printed"""
 import collections
 import re
@@ -87,15 +88,21 @@ def definitions(files):
     return found
 
 
-def laws(files, named):
-    found = {}
+def law_files(files):
+    """The files of laws: crate, name and text."""
     for name, text in files.items():
         m = re.match(r"crates/(\w+)/proofs/([A-Z]\w*)\.antt$", name)
         if m:
-            for d, t in declared(text).items():
-                if (m.group(1), m.group(2), d) in named:
-                    statement = re.search(re.escape(d) + r" : (.*?)(?: unfolding [^=]*)?(?= " + re.escape(d) + r"\b|$)", t)
-                    found[f"{m.group(1)} {m.group(2)} {d}"] = statement.group(1) if statement else t
+            yield m.group(1), m.group(2), text
+
+
+def laws(files, named):
+    found = {}
+    for crate, name, text in law_files(files):
+        for d, t in declared(text).items():
+            if (crate, name, d) in named:
+                statement = re.search(re.escape(d) + r" : (.*?)(?: unfolding [^=]*)?(?= " + re.escape(d) + r"\b|$)", t)
+                found[f"{crate} {name} {d}"] = statement.group(1) if statement else t
     return found
 
 
@@ -131,24 +138,17 @@ def became(old, new):
 def lemmas(files):
     """The names that a file of laws declares, by file."""
     found = collections.defaultdict(list)
-    for name, text in files.items():
-        m = re.match(r"crates/(\w+)/proofs/([A-Z]\w*)\.antt$", name)
-        if m:
-            for block in text.split("\n\n"):
-                head = re.search(r"(?m)^ *(?:pub |abbrev |unfoldable |record )*(ruleset )?([^\s:(]+) (?:: |\()", "\n".join(line for line in block.split("\n") if not re.match(r"\s*--|use |module ", line)))
-                if head and not head.group(1):
-                    found[f"{m.group(1)} {m.group(2)}"].append(head.group(2))
+    for crate, name, text in law_files(files):
+        for block in text.split("\n\n"):
+            head = re.search(r"(?m)^ *(?:pub |abbrev |unfoldable |record )*(ruleset )?([^\s:(]+) (?:: |\()", "\n".join(line for line in block.split("\n") if not re.match(r"\s*--|use |module ", line)))
+            if head and not head.group(1):
+                found[f"{crate} {name}"].append(head.group(2))
     return found
 
 
 def rulesets(files):
     """The names of the lists of lemmas that a file declares, by file."""
-    found = collections.defaultdict(list)
-    for name, text in files.items():
-        m = re.match(r"crates/(\w+)/proofs/([A-Z]\w*)\.antt$", name)
-        if m:
-            found[f"{m.group(1)} {m.group(2)}"] += re.findall(r"(?m)^ *(?:pub )?ruleset (\S+)", text)
-    return found
+    return {f"{crate} {name}": re.findall(r"(?m)^ *(?:pub )?ruleset (\S+)", text) for crate, name, text in law_files(files)}
 
 
 def went(title, old, new):
